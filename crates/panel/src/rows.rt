@@ -7,7 +7,7 @@ use ground_rules::Pointer;
 use transfer::Moved;
 ghost use mathlib.Core.Bool.{true, false};
 ghost use mathlib.Core.Path.{_≡_};
-ghost use Prim.Native.Nat.{_-_, _≤_};
+ghost use Prim.Native.Nat.{_-_, _<_, _≤_};
 ghost use Rattle.ground_rules.specs.Buffers.{lent};
 ghost use Rattle.ground_rules.specs.Choice.{pick};
 ghost use Rattle.ground_rules.specs.Psw.{transferring};
@@ -119,6 +119,21 @@ fn ends(m: Moved) -> bool
     ensures { λ r. ⌜ r ≡ endsRow m ⌝ }
 {
     (m.by != 0) & (m.code != 0)
+}
+
+// Where a row stops at the latest: behind its first step where that moves one byte of a wide side, so that the words behind
+// it begin a row; else at the limit.
+pub(crate) fn until(c: Channel, done: u16, limit: u16) -> u16
+    requires { ⌜ done < limit ⌝ }
+    ensures { λ r. ⌜ (done < r) × (r ≤ limit) ⌝ }
+{
+    let p = transfer::sides::plan(c);
+    let s = p.source;
+    let d = p.destination;
+    if (s.wide | d.wide) & !p.two {
+        return done + 1;
+    }
+    limit
 }
 
 // Transfer steps of a channel until its transfer ends, one is refused, or none is left.

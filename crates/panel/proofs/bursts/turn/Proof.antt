@@ -28,16 +28,20 @@ returns-2 c =
     (sym (ap (endsNow (a .c)) (c .before .before .before .before .before .external .ensures)) ∙ sym (c .before .before .before .before .ends-now .ensures) ∙ c .before .before .before .if1 .left)
     (sym (ap (rankOf (a .c)) (c .before .before .request .ensures)) ∙ sym (c .before .rank .ensures) ∙ c .if2 .taken)
 
+until-requires : tie.Need-until-requires
+until-requires c κs = c .before .before .before .before .before .before .before .before .before .before .before .before .pre
+
 row-requires : tie.Need-row-requires
-row-requires c κs = (omega (arith, c .before .before .before .before .before .before .before .before .before .before .before .before .pre), sym (c .before .before .before .transferring .ensures) ∙ c .before .before .if3 .taken)
+row-requires c κs = (omega (arith, c .until .ensures .0), sym (c .before .before .before .before .transferring .ensures) ∙ c .before .before .before .if3 .taken)
 
 returns-3 : tie.Need-returns-3
 returns-3 c =
-    let a = c .before .before .before .before .before .before .before .before .before .before .before .before .before .before .before .before .before .args in
-    transfers-round (a .busy) (a .lines) (a .second) (a .c) (buffers (now (a .sys)) (now (a .io))) (a .limit) (a .done) (c .before .before .before .before .before .before .before .before .before .before .before .before .before .before .before .before .before .pre) (
-      sym (ap (endsNow (a .c)) (c .before .before .before .before .before .before .before .before .before .before .before .before .before .before .external .ensures)) ∙ sym (c .before .before .before .before .before .before .before .before .before .before .before .before .before .ends-now .ensures) ∙ c .before .before .before .before .before .before .before .before .before .before .before .before .if1 .left,
-      ne-eqb (rankOf (a .c) (requested (a .lines) (a .second))) 4 (λ z. c .before .before .before .before .before .before .before .before .before .if2 .left (c .before .before .before .before .before .before .before .before .before .before .rank .ensures ∙ ap (rankOf (a .c)) (c .before .before .before .before .before .before .before .before .before .before .before .request .ensures) ∙ z)),
-      sym (c .before .before .before .before .before .before .before .before .transferring .ensures) ∙ c .before .before .before .before .before .before .before .if3 .taken,
+    let a = c .before .before .before .before .before .before .before .before .before .before .before .before .before .before .before .before .before .before .args in
+    let stop = c .before .before .before .before .before .until in
+    transfers-round (a .busy) (a .lines) (a .second) (a .c) (buffers (now (a .sys)) (now (a .io))) (a .limit) (a .done) (c .before .before .before .before .before .before .before .before .before .before .before .before .before .before .before .before .before .before .pre) (stop .result) (stop .ensures .0) (stop .ensures .1) (
+      sym (ap (endsNow (a .c)) (c .before .before .before .before .before .before .before .before .before .before .before .before .before .before .before .external .ensures)) ∙ sym (c .before .before .before .before .before .before .before .before .before .before .before .before .before .before .ends-now .ensures) ∙ c .before .before .before .before .before .before .before .before .before .before .before .before .before .if1 .left,
+      ne-eqb (rankOf (a .c) (requested (a .lines) (a .second))) 4 (λ z. c .before .before .before .before .before .before .before .before .before .before .if2 .left (c .before .before .before .before .before .before .before .before .before .before .before .rank .ensures ∙ ap (rankOf (a .c)) (c .before .before .before .before .before .before .before .before .before .before .before .before .request .ensures) ∙ z)),
+      sym (c .before .before .before .before .before .before .before .before .before .transferring .ensures) ∙ c .before .before .before .before .before .before .before .before .if3 .taken,
     ) (c .before .before .before .before .row .result) _ (c .before .before .before .before .row .ensures)
 
 instructions-requires : tie.Need-instructions-requires
@@ -56,4 +60,4 @@ pub turn-spec : {M : Type 1} → statement M
 turn-spec =
     tie.close
     (tie.spec (λ c κs. search needs) (λ c κs. search needs) add-t11 (λ c κs. search needs) returns (λ c κs. search needs) (λ c κs. search needs) returns-2
-    (λ c κs. search needs) row-requires (λ c. search needs) (λ c. search needs) returns-3 instructions-requires (λ c. search needs) (λ c. search needs) returns-4)
+    (λ c κs. search needs) until-requires row-requires (λ c. search needs) (λ c. search needs) returns-3 instructions-requires (λ c. search needs) (λ c. search needs) returns-4)
