@@ -88,22 +88,22 @@ fn eight_apart(tag: bool, address: u32, sys: &[u8], io: &[u8]) -> u64
         let at = (address % 65536) as usize;
         let end = within(io, 65536);
         if (8 <= end) & (at < end) & (end < at + 8) {
-            if at + 8 <= 65536 {
-                return over(io, at, end, EMPTY_SLOTS);
-            }
             if 65536 <= io.len() {
                 return over(io, at, end, eight_of(io, 0));
+            }
+            if at + 8 <= 65536 {
+                return over(io, at, end, EMPTY_SLOTS);
             }
         }
     } else {
         let at = (address % 1048576) as usize;
         let end = within(sys, 1048576);
         if (8 <= end) & (at < end) & (end < at + 8) {
-            if at + 8 <= 1048576 {
-                return over(sys, at, end, 0);
-            }
             if 1048576 <= sys.len() {
                 return over(sys, at, end, eight_of(sys, 0));
+            }
+            if at + 8 <= 1048576 {
+                return over(sys, at, end, 0);
             }
         }
     }
