@@ -196,10 +196,24 @@ static const struct workload workloads[] = {
     {"two-at-io-end", second_program, sizeof second_program, 0, 0, 0, IO_END},
 };
 
+/* The buffers of a run by their name: their lengths. */
+struct buffers {
+    const char *name;
+    size_t sys_len, io_len;
+};
+
+/* Small ones, whole memories, memories that end a byte below the top of their space, and I/O memory of one program. */
+static const struct buffers lengths[] = {
+    {"small", SMALL, SMALL},
+    {"full", sizeof sys, sizeof io},
+    {"below", sizeof sys - 1, sizeof io - 1},
+    {"least", SMALL, sizeof second_program},
+};
+
 /* Says how the program is called, and ends it. */
 static _Noreturn void usage(void)
 {
-    fputs("usage: bench proved|plain WORKLOAD small|full STEPS\n"
+    fputs("usage: bench proved|plain WORKLOAD small|full|below|least STEPS\n"
           "       bench swept|stepped within|across|one COUNT\n"
           "       bench scheduled|singly|paired-1|paired-2|asked both|8/8|16/16|wait ROWS\n"
           "       bench loop TURNS\n",
@@ -212,6 +226,14 @@ static const struct workload *workload_of(const char *name)
 {
     for (size_t i = 0; i < sizeof workloads / sizeof workloads[0]; i++)
         if (strcmp(workloads[i].name, name) == 0) return &workloads[i];
+    usage();
+}
+
+/* The buffers of a name. */
+static const struct buffers *buffers_of(const char *name)
+{
+    for (size_t i = 0; i < sizeof lengths / sizeof lengths[0]; i++)
+        if (strcmp(lengths[i].name, name) == 0) return &lengths[i];
     usage();
 }
 
@@ -455,15 +477,14 @@ int main(int count, char **words)
     if (count == 4 && (strcmp(words[1], "scheduled") == 0 || strcmp(words[1], "singly") == 0))
         return row_all(words[1], workload_of(words[2]), number_of(words[3])) ? 0 : 1;
     if (count == 4) return made(words[1], sweep_of(words[2]), number_of(words[3])) ? 0 : 1;
-    if (count != 5 || (strcmp(words[3], "small") != 0 && strcmp(words[3], "full") != 0)) usage();
-    bool small = strcmp(words[3], "small") == 0;
+    if (count != 5) usage();
     uint32_t limit = number_of(words[4]);
     const struct workload *w = workload_of(words[2]);
-    size_t sys_len = small ? SMALL : sizeof sys, io_len = small ? SMALL : sizeof io;
-    make_image(w, sys_len, io_len);
+    const struct buffers *b = buffers_of(words[3]);
+    make_image(w, b->sys_len, b->io_len);
     bool both = strcmp(words[2], "both") == 0;
-    uint32_t answer = both ? step_both(strcmp(words[1], "proved") == 0, sys_len, io_len, limit)
-                           : run(words[1], sys_len, io_len, w->lines, limit);
+    uint32_t answer = both ? step_both(strcmp(words[1], "proved") == 0, b->sys_len, b->io_len, limit)
+                           : run(words[1], b->sys_len, b->io_len, w->lines, limit);
     if (answer == limit) return 0;
     fprintf(stderr, "bench: number %u after %u steps\n", IOP89_NUMBER(answer), IOP89_STEPS(answer));
     return 1;

@@ -1,7 +1,7 @@
 -- The laws of bytes that are read at once: those in one piece are those of the buffer, and those that go over its end are its last and then what lies behind.
 -- Assumes nothing.
 use Prim.Native.Nat.{ℕ, zero, suc, _+_, _-_, _*_, _<_, _≤_}
-use borrow.Author.Tests.{leb-true, ltb-true, lt-ltb, le-ltb, le-leb}
+use borrow.Author.Tests.{leb-true, ltb-true, lt-ltb, le-ltb, le-leb, lt-leb}
 use lib.Dec.{ltb, leb}
 use lib.ListN.{length, getD}
 use lib.Seq.{set-getD, getD-set-same}
@@ -16,7 +16,7 @@ use Rattle.ground_rules.specs.Choice.{pick}
 use Rattle.ground_rules.specs.Places.{span, allPass, allTouchable}
 use Rattle.ground_rules.proofs.ChoiceLaws.{both-left, both-right}
 use Rattle.ground_rules.proofs.SpanLaws.{span-io, span-system, span-tests}
-use Rattle.execute.specs.Bytes.{reachable, overBy, fourFrom, eightFrom, fourAt, eightAt}
+use Rattle.execute.specs.Bytes.{reachable, overBy, behindEnd, fourFrom, eightFrom, fourAt, eightAt}
 
 -- ---- where addresses lie
 
@@ -46,6 +46,12 @@ unfolding limitOf
 limit-large true = omega arith
 limit-large false = omega arith
 
+-- what a read beyond a buffer gives is a byte
+beyond-small : (t : Bool) → beyondIn t < 256
+unfolding beyondIn
+beyond-small true = omega arith
+beyond-small false = omega arith
+
 -- addresses reach no further than a buffer's end, nor than the limit; short of that they reach its end
 module _ (l : List ℕ) (most : ℕ) where
   pub reach-length : reachable l most ≤ length l
@@ -64,13 +70,9 @@ module _ (l : List ℕ) (most : ℕ) where
       by (yes h) = rw (lt-ltb (length l) most h) (omega arith)
       by (no h) = rw (le-ltb (length l) most (omega arith)) (omega arith)
 
-  reach-short : reachable l most < most → reachable l most ≡ length l
+  reach-below : length l < most → reachable l most ≡ length l
   unfolding reachable
-  reach-short = by (decLt (length l) most)
-    where
-      by : Dec (length l < most) → pick (ltb (length l) most) (length l) most < most → pick (ltb (length l) most) (length l) most ≡ length l
-      by (yes h) less = rw (lt-ltb (length l) most h) refl
-      by (no h) less = absurd (omega (arith, rw (le-ltb (length l) most (omega arith)) at less))
+  reach-below h = rw (lt-ltb (length l) most h) refl
 
   reach-whole : most ≤ length l → reachable l most ≡ most
   unfolding reachable
@@ -153,6 +155,14 @@ piece-touchable m false a n h few = span-system m a n ∙ some n few
 unfoldable shifted : ℕ → (ℕ → ℕ) → (ℕ → ℕ) → ℕ → ℕ
 shifted by g h k = pick (ltb (k + by) 8) (g (k + by)) (h (k + by - 8))
 
+shifted-small : (by : ℕ) (g h : ℕ → ℕ) → ((k : ℕ) → g k < 256) → ((k : ℕ) → h k < 256) → (k : ℕ) → shifted by g h k < 256
+unfolding shifted
+shifted-small by g h p q k = either (ltb (k + by) 8)
+  where
+    either : (b : Bool) → pick b (g (k + by)) (h (k + by - 8)) < 256
+    either true = p (k + by)
+    either false = q (k + by - 8)
+
 joined : (g h : ℕ → ℕ) → ((k : ℕ) → g k < 256) → ((k : ℕ) → h k < 256) → (by : ℕ) → 1 ≤ by → by < 8 → overBy (eightOf g) (eightOf h) by ≡ eightOf (shifted by g h)
 unfolding overBy shifted
 joined g h p q zero l u = absurd (omega (arith, l))
@@ -184,6 +194,10 @@ over-tests at end h =
     let first = both-left (leb 8 end && ltb at end) (ltb end (at + 8)) h in
     (leb-true 8 end (both-left (leb 8 end) (ltb at end) first), ltb-true at end (both-right (leb 8 end) (ltb at end) first), ltb-true end (at + 8) (both-right (leb 8 end && ltb at end) (ltb end (at + 8)) h))
 
+-- and that a buffer ends fewer than eight bytes below the top
+pub near-tests : (n top : ℕ) → ltb n top && ltb top (n + 8) ≡ true → (n < top) × (top < n + 8)
+near-tests n top h = (ltb-true n top (both-left (ltb n top) (ltb top (n + 8)) h), ltb-true top (n + 8) (both-right (ltb n top) (ltb top (n + 8)) h))
+
 -- so they lie about the end that addresses reach, what lies behind it being given
 module _ (m : Buffers) (t : Bool) (a end : ℕ) (reached : end ≡ reachable (spaceOf m t) (limitOf t)) (known : (i : ℕ) → getD (spaceOf m t) i 0 < 256)
     (tests : (leb 8 end && ltb (indexOf t a) end) && ltb end (indexOf t a + 8) ≡ true) where
@@ -195,6 +209,10 @@ module _ (m : Buffers) (t : Bool) (a end : ℕ) (reached : end ≡ reachable (sp
 
   behind : end < indexOf t a + 8
   behind = over-tests (indexOf t a) end tests .2
+
+  ended : length (spaceOf m t) < limitOf t → end ≡ length (spaceOf m t)
+  unfolding reachable
+  ended short = reached ∙ reach-below (spaceOf m t) (limitOf t) short
 
   over-is : (h : ℕ → ℕ) → ((k : ℕ) → h k < 256) → ((n k : ℕ) → indexOf t a + n ≡ end + k → n < 8 → byteAt m t (a + n) ≡ h k)
       → overBy (eightFrom (spaceOf m t) (end - 8)) (eightOf h) (indexOf t a + 8 - end) ≡ eightAt m t a
@@ -220,31 +238,51 @@ module _ (m : Buffers) (t : Bool) (a end : ℕ) (reached : end ≡ reachable (sp
           let e : indexOf t a + k ≡ end + (k + by - 8) = omega (arith, q, before, behind) in
           rw (le-ltb (k + by) 8 (omega (arith, q))) (sym (there k (k + by - 8) e less))
 
-  -- where no address wraps, what a read beyond the buffer gives lies behind
-  pub over-end : (high : ℕ) → high ≡ eightOf (λ (k : ℕ). beyondIn t) → indexOf t a + 8 ≤ limitOf t → overBy (eightFrom (spaceOf m t) (end - 8)) high (indexOf t a + 8 - end) ≡ eightAt m t a
-  unfolding byteAt beyondIn
-  over-end high e short =
-      ap (λ (x : ℕ). overBy (eightFrom (spaceOf m t) (end - 8)) x (indexOf t a + 8 - end)) e
-      ∙ over-is (λ (k : ℕ). beyondIn t) (λ k. beyond-small t) (λ n k at few. ap (λ (i : ℕ). getD (spaceOf m t) i (beyondIn t)) (index-on t a n (omega (arith, short, few))) ∙ past (spaceOf m t) (indexOf t a + n) (beyondIn t) (omega (arith, at, ended)))
-    where
-      ended : end ≡ length (spaceOf m t)
-      ended = reached ∙ reach-short (spaceOf m t) (limitOf t) (omega (arith, short, behind, reached))
-
-      beyond-small : (s : Bool) → beyondIn s < 256
-      beyond-small true = omega arith
-      beyond-small false = omega arith
-
-  -- where the buffer is whole, its first bytes do
-  pub over-again : limitOf t ≤ length (spaceOf m t) → overBy (eightFrom (spaceOf m t) (end - 8)) (eightFrom (spaceOf m t) 0) (indexOf t a + 8 - end) ≡ eightAt m t a
+  -- behind the end and below the top lies what a read beyond the buffer gives, and from the top on the buffer's first bytes
+  empty : (n k : ℕ) → indexOf t a + n ≡ end + k → end ≡ length (spaceOf m t) → end + k < limitOf t → byteAt m t (a + n) ≡ beyondIn t
   unfolding byteAt
-  over-again whole =
-      ap (λ (x : ℕ). overBy (eightFrom (spaceOf m t) (end - 8)) x (indexOf t a + 8 - end)) (eight-from (spaceOf m t) 0)
-      ∙ over-is (λ (k : ℕ). getD (spaceOf m t) (0 + k) 0) (λ k. known (0 + k)) (λ n k at few. again n k at (omega (arith, at, few, before)))
-    where
-      ended : end ≡ limitOf t
-      ended = reached ∙ reach-whole (spaceOf m t) (limitOf t) whole
+  empty n k at ended low =
+      ap (λ (i : ℕ). getD (spaceOf m t) i (beyondIn t)) (index-on t a n (omega (arith, at, low)))
+      ∙ past (spaceOf m t) (indexOf t a + n) (beyondIn t) (omega (arith, at, ended))
 
-      again : (n k : ℕ) → indexOf t a + n ≡ end + k → k < 8 → byteAt m t (a + n) ≡ getD (spaceOf m t) (0 + k) 0
-      again n k at less =
-          ap (λ (i : ℕ). getD (spaceOf m t) i (beyondIn t)) (index-again t a n k (omega (arith, at, ended)) (omega (arith, less, limit-large t)) ∙ sym (zero-add k))
-          ∙ within (spaceOf m t) (0 + k) (beyondIn t) 0 (omega (arith, less, whole, limit-large t))
+  again : (n k : ℕ) → indexOf t a + n ≡ limitOf t + k → k < 8 → byteAt m t (a + n) ≡ getD (spaceOf m t) (0 + k) 0
+  unfolding byteAt
+  again n k at less =
+      ap (λ (i : ℕ). getD (spaceOf m t) i (beyondIn t)) (index-again t a n k at (omega (arith, less, limit-large t)) ∙ sym (zero-add k))
+      ∙ within (spaceOf m t) (0 + k) (beyondIn t) 0 (omega (arith, less, most, reached, reach-length (spaceOf m t) (limitOf t)))
+
+  -- so of a whole buffer, of one that ends fewer than eight bytes below the top, and of any other the same eight bytes are read
+  pub over-end : overBy (eightFrom (spaceOf m t) (end - 8)) (behindEnd (spaceOf m t) (limitOf t) (eightOf (λ (k : ℕ). beyondIn t))) (indexOf t a + 8 - end) ≡ eightAt m t a
+  unfolding behindEnd shifted
+  over-end = by (decLt (length (spaceOf m t)) (limitOf t)) (decLt (limitOf t) (length (spaceOf m t) + 8))
+    where
+      beyond : ℕ → ℕ
+      beyond k = beyondIn t
+
+      front : ℕ → ℕ
+      front k = getD (spaceOf m t) (0 + k) 0
+
+      gap : ℕ
+      gap = length (spaceOf m t) + 8 - limitOf t
+
+      over : ℕ → ℕ
+      over high = overBy (eightFrom (spaceOf m t) (end - 8)) high (indexOf t a + 8 - end)
+
+      small : (k : ℕ) → beyond k < 256
+      small k = beyond-small t
+
+      top : (n k : ℕ) → length (spaceOf m t) < limitOf t → limitOf t < length (spaceOf m t) + 8 → indexOf t a + n ≡ end + k → n < 8 → Dec (k + gap < 8) → byteAt m t (a + n) ≡ shifted gap beyond front k
+      top n k short near at few (yes low) = rw (lt-ltb (k + gap) 8 low) (empty n k at (ended short) (omega (arith, low, ended short, near)))
+      top n k short near at few (no high) = rw (le-ltb (k + gap) 8 (omega (arith, high))) (again n (k + gap - 8) (omega (arith, at, high, ended short, near, short)) (omega (arith, at, few, before, short, ended short)))
+
+      by : Dec (length (spaceOf m t) < limitOf t) → Dec (limitOf t < length (spaceOf m t) + 8) → over (behindEnd (spaceOf m t) (limitOf t) (eightOf beyond)) ≡ eightAt m t a
+      by (no whole) near =
+          rw (le-ltb (length (spaceOf m t)) (limitOf t) (omega (arith, whole)), le-leb (limitOf t) (length (spaceOf m t)) (omega (arith, whole)))
+          (ap over (eight-from (spaceOf m t) 0) ∙ over-is front (λ k. known (0 + k)) (λ n k at few. again n k (omega (arith, at, reached, reach-whole (spaceOf m t) (limitOf t) (omega (arith, whole)))) (omega (arith, at, few, before))))
+      by (yes short) (no far) =
+          rw (lt-ltb (length (spaceOf m t)) (limitOf t) short, le-ltb (limitOf t) (length (spaceOf m t) + 8) (omega (arith, far)), lt-leb (limitOf t) (length (spaceOf m t)) short)
+          (over-is beyond small (λ n k at few. empty n k at (ended short) (omega (arith, at, few, before, ended short, far))))
+      by (yes short) (yes near) =
+          rw (lt-ltb (length (spaceOf m t)) (limitOf t) short, lt-ltb (limitOf t) (length (spaceOf m t) + 8) near)
+          (ap over (ap (λ (x : ℕ). overBy (eightOf beyond) x gap) (eight-from (spaceOf m t) 0) ∙ joined beyond front small (λ k. known (0 + k)) gap (omega (arith, near)) (omega (arith, short)))
+          ∙ over-is (shifted gap beyond front) (shifted-small gap beyond front small (λ k. known (0 + k))) (λ n k at few. top n k short near at few (decLt (k + gap) 8)))

@@ -1,8 +1,8 @@
 -- Bytes at a place as one number, the lowest first, and what instructions take from such a number.
 use Prim.Native.Nat.{ℕ, _+_, _-_, _*_, _/_, _%_, _^_}
-use lib.Dec.{eqb, ltb}
+use lib.Dec.{eqb, ltb, leb}
 use lib.ListN.{length, getD}
-use mathlib.Core.Bool.{Bool}
+use mathlib.Core.Bool.{Bool, _&&_}
 use mathlib.Core.List.{List}
 use Rattle.ground_rules.specs.Buffers.{Buffers, byteAt}
 use Rattle.ground_rules.specs.Choice.{pick}
@@ -23,6 +23,12 @@ reachable xs most = pick (ltb (length xs) most) (length xs) most
 -- eight digits: those of a number without its lowest `by`, and above them the lowest of another
 unfoldable pub overBy : ℕ → ℕ → ℕ → ℕ
 overBy low high by = low / 2 ^ (8 * by) + high * 2 ^ (64 - 8 * by) % 18446744073709551616
+
+-- eight bytes behind the end of a buffer of which addresses reach `most`: what reads beyond it give, up to the top, and its first ones from there on
+unfoldable pub behindEnd : List ℕ → ℕ → ℕ → ℕ
+behindEnd xs most beyond =
+    pick (ltb (length xs) most && ltb most (length xs + 8)) (overBy beyond (eightFrom xs 0) (length xs + 8 - most))
+    (pick (leb most (length xs)) (eightFrom xs 0) beyond)
 
 -- four bytes at a place, and eight
 unfoldable pub fourAt : Buffers → Bool → ℕ → ℕ

@@ -1,5 +1,5 @@
-// The bytes at a place as one number, the lowest first: in one piece where they are lent and do not wrap, in two where they
-// go over the end of a buffer, else byte by byte.
+// The bytes at a place as one number, the lowest first: in one piece where they are lent and do not wrap, in up to three
+// where they go over the end of a buffer, else byte by byte.
 use crate::Window;
 ghost use mathlib.Core.Bool.{true};
 ghost use mathlib.Core.Path.{_≡_};
@@ -7,7 +7,7 @@ ghost use Prim.Native.Nat.{ℕ, _+_, _-_, _<_, _≤_};
 ghost use lib.ListN.{length};
 ghost use Rattle.ground_rules.specs.Buffers.{lent, AllBytes};
 ghost use Rattle.ground_rules.specs.Places.{span, allTouchable};
-ghost use Rattle.execute.specs.Bytes.{reachable, overBy, fourFrom, eightFrom, fourAt, eightAt};
+ghost use Rattle.execute.specs.Bytes.{reachable, overBy, behindEnd, fourFrom, eightFrom, fourAt, eightAt};
 
 // Eight bytes of empty slots.
 const EMPTY_SLOTS: u64 = 0xFFFF_FFFF_FFFF_FFFF;
@@ -71,13 +71,29 @@ pub fn four(tag: bool, address: u32, sys: &[u8], io: &[u8]) -> u32
     four_singly(tag, address, sys, io)
 }
 
-// The last bytes of a buffer from `at` to `end`, and behind them the first ones of `high`, eight in all.
-fn over(space: &[u8], at: usize, end: usize, high: u64) -> u64
-    requires { ⌜ (8 ≤ end) × (end ≤ length (now space)) × (at < end) × (end < at + 8) ⌝ }
-    ensures { λ r. ⌜ r ≡ overBy (eightFrom (now (space .entry)) (end - 8)) high (at + 8 - end) ⌝ }
+// Eight bytes: those of `low` behind its first ones, as many as are passed, and then the first ones of `high`.
+fn over(low: u64, high: u64, passed: usize) -> u64
+    requires { ⌜ (1 ≤ passed) × (passed < 8) ⌝ }
+    ensures { λ r. ⌜ r ≡ overBy low high passed ⌝ }
 {
-    let by = (8 * (at + 8 - end)) as u32;
-    (eight_of(space, end - 8) >> by) + (high << (64 - by))
+    let by = (8 * passed) as u32;
+    (low >> by) + (high << (64 - by))
+}
+
+// The eight bytes behind a buffer's end, which may stand below the top that addresses reach; `beyond` is what is read between.
+// A buffer that ends just below the top is asked for first, since its bytes take the most instructions.
+fn behind(space: &[u8], most: usize, beyond: u64) -> u64
+    requires { ⌜ 8 ≤ length (now space) ⌝ }
+    ensures { λ r. ⌜ r ≡ behindEnd (now (space .entry)) most beyond ⌝ }
+{
+    if (space.len() < most) & (most < space.len() + 8) {
+        return over(beyond, eight_of(space, 0), space.len() + 8 - most);
+    }
+    if most <= space.len() {
+        eight_of(space, 0)
+    } else {
+        beyond
+    }
 }
 
 // The eight bytes at a place that are not in one piece.
@@ -88,23 +104,15 @@ fn eight_apart(tag: bool, address: u32, sys: &[u8], io: &[u8]) -> u64
         let at = (address % 65536) as usize;
         let end = within(io, 65536);
         if (8 <= end) & (at < end) & (end < at + 8) {
-            if 65536 <= io.len() {
-                return over(io, at, end, eight_of(io, 0));
-            }
-            if at + 8 <= 65536 {
-                return over(io, at, end, EMPTY_SLOTS);
-            }
+            let high = behind(io, 65536, EMPTY_SLOTS);
+            return over(eight_of(io, end - 8), high, at + 8 - end);
         }
     } else {
         let at = (address % 1048576) as usize;
         let end = within(sys, 1048576);
         if (8 <= end) & (at < end) & (end < at + 8) {
-            if 1048576 <= sys.len() {
-                return over(sys, at, end, eight_of(sys, 0));
-            }
-            if at + 8 <= 1048576 {
-                return over(sys, at, end, 0);
-            }
+            let high = behind(sys, 1048576, 0);
+            return over(eight_of(sys, end - 8), high, at + 8 - end);
         }
     }
     let low = four_singly(tag, address, sys, io) as u64;
