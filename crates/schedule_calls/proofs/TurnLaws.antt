@@ -2,7 +2,7 @@
 -- Assumes nothing.
 use mathlib.Core.Path.{_≡_, refl, sym, ap, ap₂, _∙_, subst}
 use mathlib.Core.{Bool.Bool, Bool.true, Bool.false, Bool.not, Bool._&&_, List.List, List.[], List._∷_, List._++_}
-use Prim.Native.Nat.{ℕ, _+_, _-_, _/_, _%_, _<_}
+use Prim.Native.Nat.{ℕ, _+_, _-_, _/_, _%_, _≤_, _<_}
 use native.Mathlib.{Nat.add-zero, Nat.zero-add, Omega.arith}
 use borrow.Author.Tests.{ne-eqb}
 use lib.{Dec.eqb, Dec.ltb, Dec.lit<, ListN.length, ListN.replicate}
@@ -103,11 +103,13 @@ module _ (s : State) (m : Buffers) (lines : ℕ) where
       (λ b z e f. elim b [ true ↦ λ h. rw (h true refl) (refl, simp (add-zero, zero-add)) | false ↦ λ h. rw (h false refl) (refl, simp (add-zero, zero-add)) ])
       (λ b z e f h. elim b [ true ↦ (refl, simp (add-zero, zero-add)) | false ↦ (refl, simp (add-zero, zero-add)) ])
 
-  -- the bytes stored are those touched less those that the step's channel was to read
-  stored-right : (f g : Found) (count : ℕ) → FoundOf s lines false f → FoundOf s lines true g → (stepCount s m lines < 16 → count ≡ stepCount s m lines)
-      → (second : Bool) → isDone isTransfer second took ≡ true → count - pick (eqb (took .channel) 2) (g .reads) (f .reads) ≡ storing second
+  -- the bytes that a transfer step touched are those that its channel was to read and those that it stored
+  abbrev Parted : Found → Found → ℕ → Type 0
+  Parted f g count = (second : Bool) → isDone isTransfer second took ≡ true → count ≡ pick (eqb (took .channel) 2) (g .reads) (f .reads) + storing second
+
+  parted : (f g : Found) (count : ℕ) → FoundOf s lines false f → FoundOf s lines true g → (stepCount s m lines < 16 → count ≡ stepCount s m lines) → Parted f g count
   unfolding channelNumber
-  stored-right f g count one two counts second h =
+  parted f g count one two counts second h =
       let c = channelOf s second in
       let says = says-and (says-and (says-eqb (took .number) 0) (says-eqb (took .channel) (channelNumber second))) (says-true (isTransfer (took .kind))) in
       let n = transfer-count s m lines second h in
@@ -116,6 +118,43 @@ module _ (s : State) (m : Buffers) (lines : ℕ) where
       transferring (c .psw) ≡ true → pick (eqb (channelNumber b) 2) (g .reads) (f .reads) ≡ length (readsBy (partOf c) c m) =
       λ b. elim b [ true ↦ λ on. two .1 on m | false ↦ λ on. one .1 on m ] in
       rw (says .holds h .0 .1) (omega (arith, read second (transfer-chosen s m lines second h .2)))
+
+  -- so no more were read than were touched
+  read-within : (reads : Bool → ℕ) (count : ℕ) → ((second : Bool) → isDone isTransfer second took ≡ true → reads (eqb (took .channel) 2) ≤ count)
+      → took .number ≡ 0 → kindNumber (took .kind) ≡ 2 → reads (eqb (took .channel) 2) ≤ count
+  unfolding kindNumber channelNumber
+  read-within reads count =
+      by-step s m lines (λ (t : Step). ((second : Bool) → isDone isTransfer second t ≡ true → reads (eqb (t .channel) 2) ≤ count) → t .number ≡ 0 → kindNumber (t .kind) ≡ 2 → reads (eqb (t .channel) 2) ≤ count)
+      (λ k ne h z two. absurd (ne z))
+      (λ b z e h y two. absurd (omega (arith, two)))
+      (λ b z e f. elim b [ true ↦ λ h y two. h true refl | false ↦ λ h y two. h false refl ])
+      (λ b z e f h y two. absurd (omega (arith, two)))
+
+-- an answer of the step call by its parts
+step-parts : (b : List ℕ) (m : Buffers) (lines answer : ℕ) (b′ : List ℕ) (m′ : Buffers) → isState b ≡ true → served answer b′ m′ ≡ stepServed b m lines
+    → let t = stepOf (stateIn b) m lines in
+    let n = stepCount (stateIn b) m lines in
+    (answer % 256 ≡ t .number) × (answer / 256 % 4 ≡ t .channel) × (answer / 1024 % 4 ≡ kindNumber (t .kind)) × (n < 16 → answer / 4096 ≡ n)
+unfolding stepServed
+step-parts b m lines answer b′ m′ is e =
+    let s = stateIn b in
+    let left : served answer b′ m′ ≡ stepLeft (stepOf s m lines) (stepCount s m lines) = rw is at e in
+    rw (ap (λ (x : Service). x .answer) left) (
+      number-part _ _ _ _ (omega (arith, step-most s m lines)),
+      channel-part _ _ _ _ (few s m lines .0),
+      kind-part _ _ _ _ (few s m lines .1),
+      count-part _ _ _ _,
+    )
+
+-- a transfer step that was done has read no more bytes than it touched
+pub step-reads : (b : List ℕ) (m : Buffers) (lines answer : ℕ) (b′ : List ℕ) (m′ : Buffers) (f g : Found) → isState b ≡ true → served answer b′ m′ ≡ stepServed b m lines
+    → FoundOf (stateIn b) lines false f → FoundOf (stateIn b) lines true g
+    → answer % 256 ≡ 0 → answer / 1024 % 4 ≡ 2 → pick (eqb (answer / 256 % 4) 2) (g .reads) (f .reads) ≤ answer / 4096
+step-reads b m lines answer b′ m′ f g is e one two done moved =
+    let s = stateIn b in
+    let parts = step-parts b m lines answer b′ m′ is e in
+    let all = parted s m lines f g (answer / 4096) one two (parts .3) in
+    rw (parts .1) (read-within s m lines (λ (second : Bool). pick second (g .reads) (f .reads)) (answer / 4096) (λ second h. omega (arith, all second h)) (sym (parts .0) ∙ done) (sym (parts .2) ∙ moved))
 
 -- what the step call leaves of a state's bytes is what the row leaves
 pub step-row : (b : List ℕ) (m : Buffers) (w : List ℕ) (lines answer : ℕ) (b′ : List ℕ) (m′ : Buffers) (w′ : List ℕ) (f g : Found) → isState b ≡ true → Bytes b → AllBytes m → FitWords w
@@ -126,21 +165,13 @@ pub step-row : (b : List ℕ) (m : Buffers) (w : List ℕ) (lines answer : ℕ) 
 unfolding rowLeft stepServed
 step-row b m w lines answer b′ m′ w′ f g is byte all small e whole one two counts =
     let s = stateIn b in
-    let t = stepOf s m lines in
-    let n = stepCount s m lines in
-    let left : served answer b′ m′ ≡ stepLeft t n = rw is at e in
-    let parts : (answer % 256 ≡ t .number) × (answer / 256 % 4 ≡ t .channel) × (answer / 1024 % 4 ≡ kindNumber (t .kind)) × (n < 16 → answer / 4096 ≡ n) =
-    rw (ap (λ (x : Service). x .answer) left) (
-      number-part _ _ _ _ (omega (arith, step-most s m lines)),
-      channel-part _ _ _ _ (few s m lines .0),
-      kind-part _ _ _ _ (few s m lines .1),
-      count-part _ _ _ _,
-    ) in
-    let stored = stored-right s m lines f g (answer / 4096) one two (parts .3) in
+    let parts = step-parts b m lines answer b′ m′ is e in
+    let left : served answer b′ m′ ≡ stepLeft (stepOf s m lines) (stepCount s m lines) = rw is at e in
+    let touched = parted s m lines f g (answer / 4096) one two (parts .3) in
     let stays = ap (λ (x : Service). isState (x .bytes)) e ∙ step-stays b byte m is all lines in
     record {
       bench = ap₂ bench whole (ap (λ (x : Service). x .memory) left);
-      words = counts ∙ rw (one .0, two .0, parts .0, parts .1, parts .2) (adds-are _ _ w small (step-adds s m lines _ stored));
+      words = counts ∙ rw (one .0, two .0, parts .0, parts .1, parts .2) (adds-are _ _ w small (step-adds s m lines _ (λ second h. omega (arith, touched second h))));
       state = record { is = stays; back = ap bytesOf whole ∙ sym (ap (λ (x : Service). x .bytes) left) };
     }
 

@@ -1,11 +1,12 @@
 -- The laws of a report's words: cleared one by one, and added to one after the other, which comes to one report added.
 -- Assumes nothing.
 use mathlib.Core.{Bool.Bool, Bool.true, Bool._&&_, List.List, List.[], List._∷_, Path._≡_, Path.refl, Path.ap₂, Path.ap, Path._∙_}
-use Prim.Native.Nat.{ℕ, zero, suc, _+_, _%_, _<_, _^_}
-use native.Mathlib.{Numerals.add-one, Omega.arith}
-use borrow.Author.Tests.{ltb-true}
-use lib.{Dec.ltb, ListN.length, ListN.getD, ListN.set, ListN.replicate, ListN.length-set, Seq.set-getD}
+use Prim.Native.Nat.{ℕ, zero, suc, _+_, _*_, _/_, _%_, _<_, _^_}
+use native.Mathlib.{Decide.decLt, Numerals.add-one, Omega.arith}
+use borrow.Author.Tests.{ltb-true, eqb-true}
+use lib.{Dec.eqb, Dec.ltb, ListN.length, ListN.getD, ListN.set, ListN.replicate, ListN.length-set, Seq.set-getD}
 use Rattle.ground_rules.proofs.ChoiceLaws.{both-left, both-right}
+use Rattle.ground_rules.specs.Choice.{pick}
 use Rattle.schedule_rules.specs.Reports.{noReport, putOver}
 use Rattle.schedule_calls.specs.Words.{addedAt, addedAll, addedOn}
 
@@ -75,3 +76,25 @@ CountedAs ws ps = (allBelow 16 ps ≡ true) × (plusAll ps noReport ≡ ws)
 -- added one after the other they are that report added
 pub adds-are : (ps : List (ℕ × ℕ)) (ws xs : List ℕ) → FitWords xs → CountedAs ws ps → addedAll ps xs ≡ addedOn ws xs
 adds-are ps ws xs small h = ap (addedAll ps) (none-on 16 xs small) ∙ all-on ps noReport xs (h .0) ∙ ap (λ (l : List ℕ). addedOn l xs) (h .1)
+
+-- ---- where a step is counted
+
+-- two rules that agree below a number, tested at once, agree at each
+abbrev agreeBelow : (ℕ → ℕ) → (ℕ → ℕ) → ℕ → Bool
+agreeBelow f g zero = true
+agreeBelow f g (suc n) = eqb (f n) (g n) && agreeBelow f g n
+
+agree-at : (f g : ℕ → ℕ) (n : ℕ) → agreeBelow f g n ≡ true → (k : ℕ) → k < n → f k ≡ g k
+agree-at f g zero e k h = absurd (omega (arith, h))
+agree-at f g (suc n) e k h = either (decLt k n) (λ l. agree-at f g n (both-right (eqb (f n) (g n)) (agreeBelow f g n) e) k l)
+  where
+    either : Dec (k < n) → (k < n → f k ≡ g k) → f k ≡ g k
+    either (yes l) rest = rest l
+    either (no l) rest = let last : k ≡ n = omega (arith, h, l) in rw last (eqb-true (f n) (g n) (both-left (eqb (f n) (g n)) (agreeBelow f g n) e))
+
+-- the digit of an answer's channel and kind is where a report counts its step
+pub place-digit : (answer : ℕ) → 0x7E775C554B442922 / 2 ^ (answer / 256 % 16 * 4) % 16 ≡ pick (eqb (answer / 256 % 4) 2) 9 2 + (3 * (answer / 1024 % 4) + 1) / 2
+place-digit answer =
+    let channel : answer / 256 % 16 % 4 ≡ answer / 256 % 4 = omega arith in
+    let kind : answer / 256 % 16 / 4 ≡ answer / 1024 % 4 = omega arith in
+    rw (channel, kind) at (agree-at (λ (k : ℕ). 0x7E775C554B442922 / 2 ^ (k * 4) % 16) (λ (k : ℕ). pick (eqb (k % 4) 2) 9 2 + (3 * (k / 4) + 1) / 2) 16 refl (answer / 256 % 16) (omega arith))

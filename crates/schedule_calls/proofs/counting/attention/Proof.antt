@@ -13,4 +13,4 @@ attention-spec =
     (λ c. search needs)
     (λ c. let d = c .before .before .before .before .before .before in
     let e = d .before .before .before .before in
-    rw (c .before .before .add3 .ensures, d .add2 .ensures, e .add .ensures, e .before .before .place .ensures .0)))
+    rw (c .before .before .add3 .ensures, d .add2 .ensures, e .add .ensures, e .before .before .over-all .ensures .0)))
