@@ -96,6 +96,15 @@ fn behind(space: &[u8], most: usize, beyond: u64) -> u64
     }
 }
 
+// The eight bytes of a buffer that begin before its end and end behind it.
+fn about_end(space: &[u8], at: usize, end: usize, most: usize, beyond: u64) -> u64
+    requires { ⌜ (end ≡ reachable (now space) most) × (8 ≤ end) × (at < end) × (end < at + 8) ⌝ }
+    ensures { λ r. ⌜ r ≡ overBy (eightFrom (now (space .entry)) (end - 8)) (behindEnd (now (space .entry)) most beyond) (at + 8 - end) ⌝ }
+{
+    let high = behind(space, most, beyond);
+    over(eight_of(space, end - 8), high, at + 8 - end)
+}
+
 // The eight bytes at a place that are not in one piece.
 fn eight_apart(tag: bool, address: u32, sys: &[u8], io: &[u8]) -> u64
     ensures { λ r. ⌜ r ≡ eightAt (lent (sys .entry) (io .entry)) tag address ⌝ }
@@ -104,15 +113,13 @@ fn eight_apart(tag: bool, address: u32, sys: &[u8], io: &[u8]) -> u64
         let at = (address % 65536) as usize;
         let end = within(io, 65536);
         if (8 <= end) & (at < end) & (end < at + 8) {
-            let high = behind(io, 65536, EMPTY_SLOTS);
-            return over(eight_of(io, end - 8), high, at + 8 - end);
+            return about_end(io, at, end, 65536, EMPTY_SLOTS);
         }
     } else {
         let at = (address % 1048576) as usize;
         let end = within(sys, 1048576);
         if (8 <= end) & (at < end) & (end < at + 8) {
-            let high = behind(sys, 1048576, 0);
-            return over(eight_of(sys, end - 8), high, at + 8 - end);
+            return about_end(sys, at, end, 1048576, 0);
         }
     }
     let low = four_singly(tag, address, sys, io) as u64;
