@@ -18,7 +18,8 @@ all-bytes sys io h k true a = read io k (index_of true a)
   where
     read : (l : List ℕ) → ((i : ℕ) → get_or l i 0 < 256) → (i : ℕ) → get_or l i 255 < 256
     read [] f i = omega arith
-    read (x ∷ l) f i = elim i [ zero ↦ f 0 | suc j ↦ read l (λ k. f (suc k)) j ]
+    read (x ∷ l) f zero = f 0
+    read (x ∷ l) f (suc j) = read l (λ k. f (suc k)) j
 all-bytes sys io h k false a = h (index_of false a)
 
 -- a list that gives a byte at a place still does after a byte is put somewhere
