@@ -2,12 +2,8 @@
 -- Assumes nothing.
 use Rattle.std.proofs.Common.{rules}
 use Rattle.ground_rules.specs.Bits.{field_of, bit_of}
-use Rattle.words.proofs.bit.Statement.{statement}
-use Rattle.words.proofs.bit.Tie as tie
+use Rattle.words.proofs.bit.Goals as goal
 
-returns : tie.Need-returns
+pub returns : goal.returns
 unfolding field_of bit_of
 returns c = rw c.field.ensures
-
-pub bit-spec : {M : Type 1} → statement M
-bit-spec = tie.close (tie.spec (λ c κs. search rules) returns)

@@ -4,8 +4,7 @@ use Rattle.std.proofs.Common.{◌≡◌, ℕ, suc, ◌+◌, ◌-◌, ◌%◌, �
 use lib.Signed.{mag, non_neg}
 use mir.Facts.{to_z_pos, sfits_widen}
 use Rattle.ground_rules.specs.Signs.{displaced_by}
-use Rattle.words.proofs.displaced.Statement.{statement}
-use Rattle.words.proofs.displaced.Tie as tie
+use Rattle.words.proofs.displaced.Goals as goal
 
 -- where the raised pointer p + 2 ^ 31 lands
 landing : ℕ → ℤ → ℕ
@@ -38,7 +37,7 @@ module _ (p : ℕ) (z : ℤ) (hp : p < 1048576) (hz : SFits w32 z) where
       rw (to_z_pos w64 small) (to_z_pos w64 (omega arith))
 
   moved : to_z w64 (of_z w64 (to_z w32 (of_z w32 z))) ≡ z
-  moved = rw (to_z-of_z hz) (to_z-of_z (sfits_widen tt hz))
+  moved = rw (to_z-of_z {w = w32} hz) (to_z-of_z {w = w64} (sfits_widen {w = w32} {w' = w64} tt hz))
 
   summed : to_z w64 (of_z w64 (to_z w64 p +ℤ pos 2147483648)) +ℤ to_z w64 (of_z w64 (to_z w32 (of_z w32 z))) ≡ pos (landing p z)
   summed = rw (raised, moved) (lands p z hz.sfits)
@@ -52,31 +51,26 @@ module _ (p : ℕ) (z : ℤ) (hp : p < 1048576) (hz : SFits w32 z) where
 within : (n : ℕ) → n % 1048576 < 1048576
 within n = mod-lt n (lit< tt)
 
-add-from : tie.Need-overflow-add-from
-add-from c =
+pub overflow_add-from : goal.overflow_add-from
+overflow_add-from c =
     let small : c.args.pointer % 1048576 < 2 ^ 63 = omega arith in
     rw (to_z_pos w64 small) (record { sfits = omega arith })
 
-cast-result : tie.Need-overflow-cast-result
-cast-result c = rw (to_z-of_z c.ranges.by) (sfits_widen tt c.ranges.by)
+pub overflow_cast-result : goal.overflow_cast-result
+overflow_cast-result c = rw (to_z-of_z c.ranges.by) (sfits_widen tt c.ranges.by)
 
-add-result : tie.Need-overflow-add-result
-add-result c =
+pub overflow_add-result : goal.overflow_add-result
+overflow_add-result c =
     let p = c.args.pointer % 1048576 in
     rw (summed p c.args.by (within _) c.ranges.by) (record { sfits = below p c.args.by (within _) c.ranges.by })
 
-cast-result-2 : tie.Need-overflow-cast-result-2
-cast-result-2 c =
+pub overflow_cast-result-2 : goal.overflow_cast-result-2
+overflow_cast-result-2 c =
     let p = c.args.pointer % 1048576 in
     let low = below p c.args.by (within _) c.ranges.by in
     rw (whole p c.args.by (within _) c.ranges.by) (tt, record { fits = omega arith })
 
-returns : tie.Need-returns
+pub returns : goal.returns
 returns c =
     ap (λ (z : ℤ). nat_abs z % 1048576) (whole (c.args.pointer % 1048576) c.args.by (within _) c.ranges.by)
     ∙ lands-at c.args.pointer c.args.by c.ranges.by.sfits
-
-pub displaced-spec : {M : Type 1} → statement M
-displaced-spec =
-    tie.close
-    (tie.spec (λ c. search rules) add-from cast-result add-result cast-result-2 (λ c. search rules) returns)
