@@ -219,7 +219,7 @@ fn shared_line(
 
 // The three lines of a dump.
 pub fn dump(out: &mut [u8], at: usize, s: State, sys: &[u8], io: &[u8]) -> usize
-    ensures { Behind (page out.old at) (page out.new result) (dump_text s (lent sys.entry io.entry)) }
+    ensures { Behind (page out.old at) (page out.new result) (dump_text s (lent sys.now io.now)) }
 {
     let first = s.first;
     let second = s.second;

@@ -41,7 +41,7 @@ pub extern "C" fn iop89_touches_attention(
     channel: u32,
     places: &mut [u32],
 ) -> u32
-    ensures { telling result places.new ≡ touches_attention state.now (lent sys.entry io.entry) channel places.old }
+    ensures { telling result places.new ≡ touches_attention state.now (lent sys.now io.now) channel places.old }
 {
     if !layout::is_state(state) {
         return 17;
@@ -58,7 +58,7 @@ pub extern "C" fn iop89_touches_power_up(
     io: &[u8],
     places: &mut [u32],
 ) -> u32
-    ensures { telling result places.new ≡ touches_power_up state.now (lent sys.entry io.entry) places.old }
+    ensures { telling result places.new ≡ touches_power_up state.now (lent sys.now io.now) places.old }
 {
     if state.len() != 104 {
         return 17;
@@ -75,7 +75,7 @@ pub extern "C" fn iop89_touches_step(
     lines: u32,
     places: &mut [u32],
 ) -> u32
-    ensures { telling result places.new ≡ touches_step state.now (lent sys.entry io.entry) lines places.old }
+    ensures { telling result places.new ≡ touches_step state.now (lent sys.now io.now) lines places.old }
 {
     if !layout::is_state(state) {
         return 17;
@@ -109,7 +109,7 @@ pub extern "C" fn iop89_touches_sweep(
     lines: u32,
     places: &mut [u32],
 ) -> u32
-    ensures { telling result places.new ≡ touches_sweep state.now (lent sys.entry io.entry) channel lines places.old }
+    ensures { telling result places.new ≡ touches_sweep state.now (lent sys.now io.now) channel lines places.old }
 {
     if !layout::is_state(state) {
         return 17;

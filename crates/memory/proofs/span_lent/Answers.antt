@@ -15,8 +15,7 @@ use Rattle.ground_rules.specs.Places.{span, all_pass, all_lent}
 use Rattle.ground_rules.proofs.ChoiceLaws.{or-true, or-false}
 use Rattle.ground_rules.proofs.PlaceLaws.{index-small}
 use Rattle.ground_rules.proofs.SpanLaws.{span-tests}
-use Rattle.memory.proofs.span_lent.Statement.{statement}
-use Rattle.memory.proofs.span_lent.Tie as tie
+use Rattle.memory.proofs.span_lent.Goals as goal
 
 -- one comparison with how far a row may reach is the two comparisons with the length
 one-test : (end length most : ℕ) → end < 1099511627776 → leb end (pick (leb most length) 1099511627776 length) ≡ leb end length || leb most length
@@ -32,26 +31,23 @@ row-lent : (m : Buffers) (t : Bool) (a n r : ℕ) → (n ≡ 0 → ⊥) → n < 
 row-lent m t a n r some small e =
     ap (leb (index_of t a + n)) e ∙ one-test (index_of t a + n) (length (space_of m t)) (limit_of t) (omega (arith, small, index-small t a)) ∙ span-tests m t a n some
 
-returns : tie.Need-returns
+pub returns-then-count-eq0 : goal.returns-then-count-eq0
 unfolding span all_pass
-returns c = rw c.if1.true
+returns-then-count-eq0 c = rw c.if-count-eq0.true
 
-add-end : tie.Need-overflow-add-end
-add-end c = omega (arith, index-small c.before.before.before.before.args.tag c.before.before.before.before.args.address, c.index.ensures)
+pub overflow_add-end : goal.overflow_add-end
+overflow_add-end c = omega (arith, index-small c.args.tag c.args.address, c.index.ensures)
 
-returns-2 : tie.Need-returns-2
+pub returns-then-tag : goal.returns-then-tag
 unfolding space_of limit_of
-returns-2 c =
-    let a = c.before.before.before.before.before.before.args in
+returns-then-tag c =
+    let a = c.args in
     let m = buffers a.sys.now a.io.now in
-    rw (c.before.before.index.ensures, c.before.if2.true) (row-lent m true a.address a.count c.reach.result c.before.before.before.if1.false (omega arith) c.reach.ensures)
+    rw (c.index.ensures, c.if-tag.true) (row-lent m true a.address a.count c.reach.result c.if-count-eq0.false (omega arith) c.reach.ensures)
 
-returns-3 : tie.Need-returns-3
+pub returns-else-tag : goal.returns-else-tag
 unfolding space_of limit_of
-returns-3 c =
-    let a = c.before.before.before.before.before.before.args in
+returns-else-tag c =
+    let a = c.args in
     let m = buffers a.sys.now a.io.now in
-    rw (c.before.before.index.ensures, c.before.if2.false) (row-lent m false a.address a.count c.reach2.result c.before.before.before.if1.false (omega arith) c.reach2.ensures)
-
-pub span-lent-spec : {M : Type 1} → statement M
-span-lent-spec = tie.close (tie.spec returns (λ c κs. search rules) add-end (λ c κs. search rules) (λ c κs. search rules) returns-2 returns-3)
+    rw (c.index.ensures, c.if-tag.false) (row-lent m false a.address a.count c.reach-else-tag.result c.if-count-eq0.false (omega arith) c.reach-else-tag.ensures)
