@@ -19,7 +19,7 @@ pub mod touched;
 pub mod effects;
 
 // What an order stores: TP and PSW at PB or not, then BUSY or not.
-#[derive(Drop)]
+#[derive(Clone, Copy)]
 pub struct Writes {
     pub saves: bool,
     pub pb: u32,
@@ -31,7 +31,7 @@ pub struct Writes {
 }
 
 // What an order comes to: its number, how many bytes it reads and stores, the channel after it, and what it stores.
-#[derive(Drop)]
+#[derive(Clone, Copy)]
 pub struct Upshot {
     pub number: u32,
     pub count: u32,

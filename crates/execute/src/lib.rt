@@ -37,7 +37,7 @@ mod memories;
 mod jumps;
 
 // The register that an instruction writes by RRR: whether there is one, which, its value, and the tag where it is a pointer.
-#[derive(Drop)]
+#[derive(Clone, Copy)]
 pub struct Write {
     pub any: bool,
     pub rrr: u32,
@@ -54,14 +54,14 @@ pub const NO_WRITE: Write = Write {
 };
 
 // Eight bytes as one number, the lowest first, and whether all of them are lent.
-#[derive(Drop)]
+#[derive(Clone, Copy)]
 pub struct Window {
     pub bytes: u64,
     pub near: bool,
 }
 
 // What a shape names: whether it has a memory operand, MM and AA of that, and the register that it reads.
-#[derive(Drop)]
+#[derive(Clone, Copy)]
 pub struct Naming {
     pub memory: bool,
     pub mm: u32,
@@ -71,7 +71,7 @@ pub struct Naming {
 
 // What an instruction finds: TP past it and TP's tag, IX, MC, PSW with the mark used up, whether there was one; its operand's
 // address and tag, the four bytes there and the four behind its pair and offset byte; its register and that one's tag.
-#[derive(Drop)]
+#[derive(Clone, Copy)]
 pub struct Finding {
     pub tp: u32,
     pub code: bool,
@@ -90,7 +90,7 @@ pub struct Finding {
 // What an instruction would do, in numbers: a number other than 0 where it is refused; how many bytes it reads of its
 // operand, and how many besides; TP, IX, PSW, whether it halts and the mark after it; the register that it writes; and
 // how many bytes it stores, where, and of which value.
-#[derive(Drop)]
+#[derive(Clone, Copy)]
 pub struct Effect {
     pub number: u32,
     pub more: u32,

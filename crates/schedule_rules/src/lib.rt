@@ -2,7 +2,7 @@
 
 // One row: kind 1 is an attention to the channel `value`, kind 2 a step with the line number `value`.
 #[repr(C)]
-#[derive(Drop)]
+#[derive(Clone, Copy)]
 pub struct ScheduleRow {
     pub kind: u32,
     pub value: u32,

@@ -11,7 +11,7 @@ use script_text::text;
 use script_text::text::ScriptCall;
 
 // How many bytes of each buffer are lent.
-#[derive(Drop)]
+#[derive(Clone, Copy)]
 struct LentLengths {
     sys: usize,
     io: usize,
@@ -112,7 +112,7 @@ fn behind(text: &[u8], end: usize) -> usize
 }
 
 // What a call is given of the text, and where the next line starts.
-#[derive(Drop)]
+#[derive(Clone, Copy)]
 struct GivenText {
     from: usize,
     to: usize,

@@ -20,7 +20,7 @@ use script_text::text::ScriptCall;
 use script_text::{buffers, registers, text};
 
 // The state after a line, whether its call was made, and how many bytes its text has.
-#[derive(Drop)]
+#[derive(Clone, Copy)]
 pub struct Performed {
     pub state: State,
     pub made: bool,
@@ -121,7 +121,7 @@ fn is_part(bytes: &[u8], address: u32, count: u32) -> bool
 }
 
 // Whether a listing was made, and how many bytes its text has.
-#[derive(Drop)]
+#[derive(Clone, Copy)]
 struct ListedPart {
     made: bool,
     count: usize,

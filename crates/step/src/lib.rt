@@ -16,7 +16,7 @@ pub mod turns;
 
 // What a channel's step comes to: its number, 0 for done, how many bytes it read and stored, the channel after it and its
 // kind.
-#[derive(Drop)]
+#[derive(Clone, Copy)]
 pub struct Turn {
     pub number: u32,
     pub count: u32,

@@ -15,7 +15,7 @@ use ground_rules::{Channel, Fields, Held, Pointer, State};
 use sweep_rules::Swept;
 
 // What a transfer has left: where its bytes come from, where they go, and how many they are.
-#[derive(Drop)]
+#[derive(Clone, Copy)]
 pub struct Remainder {
     pub from: Pointer,
     pub into: Pointer,

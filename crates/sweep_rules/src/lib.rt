@@ -4,7 +4,7 @@ use ground_rules::State;
 
 // What a sweep answers: its number, 0 for done, the steps that it stands for, how many bytes it read and stored, and the
 // state.
-#[derive(Drop)]
+#[derive(Clone, Copy)]
 pub struct Swept {
     pub number: u32,
     pub steps: u32,

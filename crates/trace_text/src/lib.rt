@@ -12,7 +12,7 @@ use ground_rules::State;
 use turn_rules::Kind;
 
 // How a traced run ended, and how many bytes its text has.
-#[derive(Drop)]
+#[derive(Clone, Copy)]
 pub struct Traced {
     pub number: u32,
     pub steps: u32,

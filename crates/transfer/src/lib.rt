@@ -25,7 +25,7 @@ mod halves;
 mod moves;
 
 // What a channel says of its transfer before a byte is read.
-#[derive(Drop)]
+#[derive(Clone, Copy)]
 pub struct Setup {
     pub source: Side,
     pub destination: Side,
@@ -37,7 +37,7 @@ pub struct Setup {
 
 // What a step comes to before its channel is written: its number, how many bytes it read and stored, by how many bytes
 // the sides go on, 0 where a byte is held instead, the code of its end, and the byte that is held.
-#[derive(Drop)]
+#[derive(Clone, Copy)]
 pub struct Moved {
     pub number: u32,
     pub count: u32,

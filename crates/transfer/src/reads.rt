@@ -10,14 +10,14 @@ use ground_rules::Channel;
 use transfer_rules::Data;
 
 // The bytes read, and whether each of them may be touched; where one may not, none counts.
-#[derive(Drop)]
+#[derive(Clone, Copy)]
 pub(crate) struct Fetched {
     pub(crate) bytes: Data,
     pub(crate) touchable: bool,
 }
 
 // A byte, and whether a call may touch it.
-#[derive(Drop)]
+#[derive(Clone, Copy)]
 pub struct Seen {
     pub byte: u8,
     pub touchable: bool,

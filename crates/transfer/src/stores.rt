@@ -15,14 +15,14 @@ use ground_rules::{Channel, Held};
 use transfer_rules::Data;
 
 // What the masked compare decides: whether two bytes are stored, and the code of its end.
-#[derive(Drop)]
+#[derive(Clone, Copy)]
 struct Compared {
     two: bool,
     code: u32,
 }
 
 // What a step does with the bytes: whether two are stored, and the code of its end.
-#[derive(Drop)]
+#[derive(Clone, Copy)]
 pub(crate) struct StoreEnd {
     pub(crate) two: bool,
     pub(crate) code: u32,

@@ -2,7 +2,7 @@
 use ground_rules::Pointer;
 
 // One side of a transfer: its pointer, whether it moves on, and whether it is 16 bits wide.
-#[derive(Drop)]
+#[derive(Clone, Copy)]
 pub struct Side {
     pub pointer: Pointer,
     pub moves: bool,
@@ -10,7 +10,7 @@ pub struct Side {
 }
 
 // The bytes to be stored.
-#[derive(Drop)]
+#[derive(Clone, Copy)]
 pub struct Data {
     pub first: u8,
     pub second: u8,
