@@ -1,4 +1,5 @@
 // Types of the ground: pointers, a channel, the board, a state, and what a call on one answers.
+#![tactic(auto)]
 
 // A pointer: 20 bits of address, and the tag that names its space (false system, true I/O).
 #[derive(Drop)]
