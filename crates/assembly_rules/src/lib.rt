@@ -1,4 +1,5 @@
 // Types of the rules of the assembler.
+#![tactic(auto)]
 
 // What a run that begins with a digit stands for: a number mod 65,536, or none.
 #[derive(Clone, Copy)]

@@ -1,4 +1,5 @@
 // Types of the rules of attention.
+#![tactic(auto)]
 
 // What a CCW commands.
 #[derive(Clone, Copy)]

@@ -1,4 +1,6 @@
 // Types of the rules of the listing.
+#![tactic(auto)]
+
 use instruction_rules::{Memory, Shape};
 
 // A place for an operand: none, a register, memory and where its offset byte lies, a number or a jump's target and where its
