@@ -1,4 +1,6 @@
 // Types of the rules of instructions: what a pair of bytes stands for, and what an instruction comes to.
+#![tactic(auto)]
+
 use ground_rules::Pointer;
 
 // The memory operand of a pair: MM, AA and W.
