@@ -1,4 +1,6 @@
 // Types of the rules of transfer steps.
+#![tactic(auto)]
+
 use ground_rules::Pointer;
 
 // One side of a transfer: its pointer, whether it moves on, and whether it is 16 bits wide.

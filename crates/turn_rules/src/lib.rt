@@ -1,4 +1,6 @@
 // Types of the rules of a step: who has the turn, and what a step answers.
+#![tactic(auto)]
+
 use ground_rules::State;
 
 // What a step was; nothing where it was refused.
