@@ -1,4 +1,6 @@
 // One transfer step of a channel, and the external end of a transfer.
+#![tactic(auto)]
+
 ghost use Rattle.std.specs.Prelude.{false, ◌≡◌, length};
 ghost use Rattle.ground_rules.specs.Buffers.{Buffers, lent};
 ghost use Rattle.transfer.specs.Setups.{setup_of};
