@@ -1,4 +1,6 @@
 // The attention call: the order that a channel's block holds is read, tested, and carried out whole or not at all.
+#![tactic(auto)]
+
 ghost use Rattle.std.specs.Prelude.{◌≡◌};
 ghost use Rattle.ground_rules.specs.Buffers.{lent};
 ghost use Rattle.ground_rules.specs.Outcomes.{outcome};

@@ -1,4 +1,6 @@
 // Power-up: the processor reads in system memory what its board set up, whole or not at all.
+#![tactic(auto)]
+
 ghost use Rattle.std.specs.Prelude.{◌≡◌};
 ghost use Rattle.ground_rules.specs.Buffers.{lent};
 ghost use Rattle.ground_rules.specs.Places.{all_touchable};
