@@ -7,8 +7,7 @@ use mathlib.Core.Bool.{Bool, true, false, ◌&&◌, ◌||◌, or-false}
 use Prim.Native.Nat.{ℕ, ◌+◌, ◌%◌, ◌≤◌}
 use native.Mathlib.Omega.{arith}
 use lib.Dec.{eqb, ltb}
-use Rattle.decode_shapes.proofs.pairs.immediate.Statement.{statement}
-use Rattle.decode_shapes.proofs.pairs.immediate.Tie as tie
+use Rattle.decode_shapes.proofs.pairs.immediate.Goals as goal
 
 one_more : (w dd : ℕ) → (ltb w 2 && eqb dd (w % 2 + 1)) ≡ (eqb w 0 && eqb dd 1 || eqb w 1 && eqb dd 2)
 one_more w dd = go (eqb w 0) refl (eqb w 1) refl
@@ -20,8 +19,5 @@ one_more w dd = go (eqb w 0) refl (eqb w 1) refl
         let high : 2 ≤ w = omega (arith, eqb-false w 0 e, eqb-false w 1 f) in
         rw (le-ltb w 2 high, e, f)
 
-returns : tie.Need-returns
+pub returns : goal.returns
 returns c = one_more c.args.w c.args.dd
-
-pub immediate-spec : {M : Type 1} → statement M
-immediate-spec = tie.close (tie.spec (λ c. search rules) returns)
