@@ -8,18 +8,10 @@ use lib.ListN.{get_or}
 use Rattle.ground_rules.specs.Bits.{field_of}
 use Rattle.decode.specs.Cells.{cells, cell_of}
 use Rattle.decode.proofs.CellLaws.{cell-small}
-use Rattle.decode.proofs.cells.cell.Statement.{statement}
-use Rattle.decode.proofs.cells.cell.Tie as tie
+use Rattle.decode.proofs.cells.cell.Goals as goal
 
-cast-result : tie.Need-overflow-cast-result
-unfolding cells
-cast-result c = omega (arith, cell-small (c.args.second / 4) (omega arith))
-
-returns : tie.Need-returns
+pub returns : goal.returns
 unfolding cells cell_of field_of
 returns c =
     let same : c.args.second / 4 ≡ field_of c.args.second 2 6 = omega arith in
     ap (λ (k : ℕ). get_or cells k 0) same
-
-pub cell-spec : {M : Type 1} → statement M
-cell-spec = tie.close (tie.spec (λ c. search rules) (λ c. search rules) cast-result returns)
