@@ -10,7 +10,7 @@ use borrow.Author.Tests.{eqb-true, eqb-false}
 use Rattle.ground_rules.specs.Bits.{bit_of}
 use Rattle.ground_rules.specs.Choice.{pick}
 use Rattle.instruction_rules.specs.Pairs.{Column, meets, pair_of, wide_of, two_of, memory_of}
-use Rattle.instruction_rules.specs.Pairs.Column.{'0, '1, '00, '10, '11, '000, '001, '010, '011, '100, '1SD, 'RRR, 'PPP, 'BBB, 'dd, 'wb, 'AA, 'W, 'MM}
+use Rattle.instruction_rules.specs.Pairs.Column.{'0, '1, '00, '10, '11, '000, 'PPP, 'dd, 'wb, 'AA, 'W, 'MM}
 use Rattle.instruction_rules.specs.Rows.{is_control}
 use Rattle.instruction_rules.specs.declared.Pair.{Pair}
 use Rattle.instruction_rules.specs.declared.Shape.{Shape}
@@ -18,7 +18,7 @@ use Rattle.instruction_rules.specs.declared.Work.{Work}
 use Rattle.instruction_rules.specs.declared.Single.{Single}
 use Rattle.instruction_rules.specs.declared.Shape.TheVariants.{Nop, Sintr, Xfer, Wid, Hlt, Lpdi, RegisterImmediate, Register, JumpRegister, RegisterMemory, MemoryRegister, MemoryImmediate, MemoryAlone, JumpMemory, Lpd, MovpLoad, MovpStore, MovMemory, Tsl, Call, JumpMasked, JumpBit, Bit}
 use Rattle.instruction_rules.specs.declared.Decoded.TheVariants.{Instruction, NoInstruction, ControlUsed}
-use Rattle.instruction_rules.specs.Table.{SummaryRow, row, table, accepts, refuses}
+use Rattle.instruction_rules.specs.Table.{SummaryRow, row, table, accepts}
 use Rattle.instruction_rules.specs.Reading.{fits, lookup, decode_of}
 use Rattle.instruction_rules.specs.Lengths.{offset_by, more_by, two_by, data_length, displacement_length, length_of, long_code, pair_length}
 
@@ -146,51 +146,51 @@ data Rights : List SummaryRow → Type 0 where
 rights : Rights table
 unfolding table ordinary length_of data_length displacement_length
 rights =
-    plain-memory 'PPP '1 0x22 accepts (λ p. Lpd p.rrr (memory_of p)) tt (λ p. refl)  -- LPD P,M
+    plain-memory _ _ _ _ (λ p. Lpd p.rrr (memory_of p)) tt (λ p. refl)  -- LPD P,M
     ▸ lpdi  -- LPDI P,I
-    ▸ plain-memory 'PPP '1 0x26 accepts (λ p. MovpStore p.rrr (memory_of p)) tt (λ p. refl)  -- MOVP M,P
-    ▸ plain-memory 'PPP '1 0x23 accepts (λ p. MovpLoad p.rrr (memory_of p)) tt (λ p. refl)  -- MOVP P,M
+    ▸ plain-memory _ _ _ _ (λ p. MovpStore p.rrr (memory_of p)) tt (λ p. refl)  -- MOVP M,P
+    ▸ plain-memory _ _ _ _ (λ p. MovpLoad p.rrr (memory_of p)) tt (λ p. refl)  -- MOVP P,M
     ▸ mov-memory  -- MOV M,M
-    ▸ plain-memory 'RRR 'W 0x20 accepts (λ p. RegisterMemory Work.Mov p.rrr (memory_of p)) tt (λ p. refl)  -- MOV R,M
-    ▸ plain-memory 'RRR 'W 0x21 accepts (λ p. MemoryRegister Work.Mov p.rrr (memory_of p)) tt (λ p. refl)  -- MOV M,R
-    ▸ data-register 'RRR 'W 0x0C accepts (λ p. RegisterImmediate Work.Mov p.rrr (wide_of p)) tt (λ p. refl)  -- MOVI R
-    ▸ data-memory '000 'W 0x13 accepts (λ p. MemoryImmediate Work.Mov (memory_of p)) tt (λ p. refl)  -- MOVI M
-    ▸ jump-memory '100 'W 0x27 accepts (λ p. Call (memory_of p) (two_of p)) tt (λ p. refl)  -- CALL
-    ▸ jump-memory '000 'W 0x39 accepts (λ p. JumpMemory true (memory_of p) (two_of p)) tt (λ p. refl)  -- JZ M
-    ▸ jump-register 'RRR '0 0x11 refuses (λ p. JumpRegister true p.rrr (two_of p)) tt (λ p. refl)  -- JZ R
-    ▸ jump-memory '000 'W 0x38 accepts (λ p. JumpMemory false (memory_of p) (two_of p)) tt (λ p. refl)  -- JNZ M
-    ▸ jump-register 'RRR '0 0x10 refuses (λ p. JumpRegister false p.rrr (two_of p)) tt (λ p. refl)  -- JNZ R
-    ▸ jump-memory 'BBB '0 0x2F accepts (λ p. JumpBit true p.rrr (memory_of p) (two_of p)) tt (λ p. refl)  -- JBT
-    ▸ jump-memory 'BBB '0 0x2E accepts (λ p. JumpBit false p.rrr (memory_of p) (two_of p)) tt (λ p. refl)  -- JNBT
-    ▸ jump-memory '000 '0 0x2C accepts (λ p. JumpMasked true (memory_of p) (two_of p)) tt (λ p. refl)  -- JMCE
-    ▸ jump-memory '000 '0 0x2D accepts (λ p. JumpMasked false (memory_of p) (two_of p)) tt (λ p. refl)  -- JMCNE
-    ▸ plain-memory '000 'W 0x3A accepts (λ p. MemoryAlone Single.Inc (memory_of p)) tt (λ p. refl)  -- INC M
-    ▸ plain-register 'RRR '0 0x0E refuses (λ p. Register Single.Inc p.rrr) tt (λ p. refl)  -- INC R
-    ▸ plain-memory '000 'W 0x3B accepts (λ p. MemoryAlone Single.Dec (memory_of p)) tt (λ p. refl)  -- DEC M
-    ▸ plain-register 'RRR '0 0x0F refuses (λ p. Register Single.Dec p.rrr) tt (λ p. refl)  -- DEC R
-    ▸ data-memory '000 'W 0x30 accepts (λ p. MemoryImmediate Work.Add (memory_of p)) tt (λ p. refl)  -- ADDI M,I
-    ▸ data-register 'RRR 'W 0x08 refuses (λ p. RegisterImmediate Work.Add p.rrr (wide_of p)) tt (λ p. refl)  -- ADDI R,I
-    ▸ plain-memory 'RRR 'W 0x34 refuses (λ p. MemoryRegister Work.Add p.rrr (memory_of p)) tt (λ p. refl)  -- ADD M,R
-    ▸ plain-memory 'RRR 'W 0x28 refuses (λ p. RegisterMemory Work.Add p.rrr (memory_of p)) tt (λ p. refl)  -- ADD R,M
-    ▸ data-memory '000 'W 0x32 accepts (λ p. MemoryImmediate Work.And (memory_of p)) tt (λ p. refl)  -- ANDI M,I
-    ▸ data-register 'RRR 'W 0x0A refuses (λ p. RegisterImmediate Work.And p.rrr (wide_of p)) tt (λ p. refl)  -- ANDI R,I
-    ▸ plain-memory 'RRR 'W 0x36 refuses (λ p. MemoryRegister Work.And p.rrr (memory_of p)) tt (λ p. refl)  -- AND M,R
-    ▸ plain-memory 'RRR 'W 0x2A refuses (λ p. RegisterMemory Work.And p.rrr (memory_of p)) tt (λ p. refl)  -- AND R,M
-    ▸ data-memory '000 'W 0x31 accepts (λ p. MemoryImmediate Work.Or (memory_of p)) tt (λ p. refl)  -- ORI M,I
-    ▸ data-register 'RRR 'W 0x09 refuses (λ p. RegisterImmediate Work.Or p.rrr (wide_of p)) tt (λ p. refl)  -- ORI R,I
-    ▸ plain-memory 'RRR 'W 0x35 refuses (λ p. MemoryRegister Work.Or p.rrr (memory_of p)) tt (λ p. refl)  -- OR M,R
-    ▸ plain-memory 'RRR 'W 0x29 refuses (λ p. RegisterMemory Work.Or p.rrr (memory_of p)) tt (λ p. refl)  -- OR R,M
-    ▸ plain-register 'RRR '0 0x0B refuses (λ p. Register Single.Not p.rrr) tt (λ p. refl)  -- NOT R
-    ▸ plain-memory '000 'W 0x37 accepts (λ p. MemoryAlone Single.Not (memory_of p)) tt (λ p. refl)  -- NOT M
-    ▸ plain-memory 'RRR 'W 0x2B refuses (λ p. RegisterMemory Work.Not p.rrr (memory_of p)) tt (λ p. refl)  -- NOT R,M
-    ▸ plain-memory 'BBB '0 0x3D accepts (λ p. Bit true p.rrr (memory_of p)) tt (λ p. refl)  -- SETB
-    ▸ plain-memory 'BBB '0 0x3E accepts (λ p. Bit false p.rrr (memory_of p)) tt (λ p. refl)  -- CLR
+    ▸ plain-memory _ _ _ _ (λ p. RegisterMemory Work.Mov p.rrr (memory_of p)) tt (λ p. refl)  -- MOV R,M
+    ▸ plain-memory _ _ _ _ (λ p. MemoryRegister Work.Mov p.rrr (memory_of p)) tt (λ p. refl)  -- MOV M,R
+    ▸ data-register _ _ _ _ (λ p. RegisterImmediate Work.Mov p.rrr (wide_of p)) tt (λ p. refl)  -- MOVI R
+    ▸ data-memory _ _ _ _ (λ p. MemoryImmediate Work.Mov (memory_of p)) tt (λ p. refl)  -- MOVI M
+    ▸ jump-memory _ _ _ _ (λ p. Call (memory_of p) (two_of p)) tt (λ p. refl)  -- CALL
+    ▸ jump-memory _ _ _ _ (λ p. JumpMemory true (memory_of p) (two_of p)) tt (λ p. refl)  -- JZ M
+    ▸ jump-register _ _ _ _ (λ p. JumpRegister true p.rrr (two_of p)) tt (λ p. refl)  -- JZ R
+    ▸ jump-memory _ _ _ _ (λ p. JumpMemory false (memory_of p) (two_of p)) tt (λ p. refl)  -- JNZ M
+    ▸ jump-register _ _ _ _ (λ p. JumpRegister false p.rrr (two_of p)) tt (λ p. refl)  -- JNZ R
+    ▸ jump-memory _ _ _ _ (λ p. JumpBit true p.rrr (memory_of p) (two_of p)) tt (λ p. refl)  -- JBT
+    ▸ jump-memory _ _ _ _ (λ p. JumpBit false p.rrr (memory_of p) (two_of p)) tt (λ p. refl)  -- JNBT
+    ▸ jump-memory _ _ _ _ (λ p. JumpMasked true (memory_of p) (two_of p)) tt (λ p. refl)  -- JMCE
+    ▸ jump-memory _ _ _ _ (λ p. JumpMasked false (memory_of p) (two_of p)) tt (λ p. refl)  -- JMCNE
+    ▸ plain-memory _ _ _ _ (λ p. MemoryAlone Single.Inc (memory_of p)) tt (λ p. refl)  -- INC M
+    ▸ plain-register _ _ _ _ (λ p. Register Single.Inc p.rrr) tt (λ p. refl)  -- INC R
+    ▸ plain-memory _ _ _ _ (λ p. MemoryAlone Single.Dec (memory_of p)) tt (λ p. refl)  -- DEC M
+    ▸ plain-register _ _ _ _ (λ p. Register Single.Dec p.rrr) tt (λ p. refl)  -- DEC R
+    ▸ data-memory _ _ _ _ (λ p. MemoryImmediate Work.Add (memory_of p)) tt (λ p. refl)  -- ADDI M,I
+    ▸ data-register _ _ _ _ (λ p. RegisterImmediate Work.Add p.rrr (wide_of p)) tt (λ p. refl)  -- ADDI R,I
+    ▸ plain-memory _ _ _ _ (λ p. MemoryRegister Work.Add p.rrr (memory_of p)) tt (λ p. refl)  -- ADD M,R
+    ▸ plain-memory _ _ _ _ (λ p. RegisterMemory Work.Add p.rrr (memory_of p)) tt (λ p. refl)  -- ADD R,M
+    ▸ data-memory _ _ _ _ (λ p. MemoryImmediate Work.And (memory_of p)) tt (λ p. refl)  -- ANDI M,I
+    ▸ data-register _ _ _ _ (λ p. RegisterImmediate Work.And p.rrr (wide_of p)) tt (λ p. refl)  -- ANDI R,I
+    ▸ plain-memory _ _ _ _ (λ p. MemoryRegister Work.And p.rrr (memory_of p)) tt (λ p. refl)  -- AND M,R
+    ▸ plain-memory _ _ _ _ (λ p. RegisterMemory Work.And p.rrr (memory_of p)) tt (λ p. refl)  -- AND R,M
+    ▸ data-memory _ _ _ _ (λ p. MemoryImmediate Work.Or (memory_of p)) tt (λ p. refl)  -- ORI M,I
+    ▸ data-register _ _ _ _ (λ p. RegisterImmediate Work.Or p.rrr (wide_of p)) tt (λ p. refl)  -- ORI R,I
+    ▸ plain-memory _ _ _ _ (λ p. MemoryRegister Work.Or p.rrr (memory_of p)) tt (λ p. refl)  -- OR M,R
+    ▸ plain-memory _ _ _ _ (λ p. RegisterMemory Work.Or p.rrr (memory_of p)) tt (λ p. refl)  -- OR R,M
+    ▸ plain-register _ _ _ _ (λ p. Register Single.Not p.rrr) tt (λ p. refl)  -- NOT R
+    ▸ plain-memory _ _ _ _ (λ p. MemoryAlone Single.Not (memory_of p)) tt (λ p. refl)  -- NOT M
+    ▸ plain-memory _ _ _ _ (λ p. RegisterMemory Work.Not p.rrr (memory_of p)) tt (λ p. refl)  -- NOT R,M
+    ▸ plain-memory _ _ _ _ (λ p. Bit true p.rrr (memory_of p)) tt (λ p. refl)  -- SETB
+    ▸ plain-memory _ _ _ _ (λ p. Bit false p.rrr (memory_of p)) tt (λ p. refl)  -- CLR
     ▸ tsl  -- TSL
-    ▸ plain-register '001 '0 0x12 accepts (λ p. Hlt) tt (λ p. refl)  -- HLT
-    ▸ plain-register '010 '0 0x00 accepts (λ p. Sintr) tt (λ p. refl)  -- SINTR
-    ▸ plain-register '000 '0 0x00 accepts (λ p. Nop) tt (λ p. refl)  -- NOP
-    ▸ plain-register '011 '0 0x00 accepts (λ p. Xfer) tt (λ p. refl)  -- XFER
-    ▸ plain-register '1SD '0 0x00 accepts (λ p. Wid (bit_of p.rrr 1) (bit_of p.rrr 0)) tt (λ p. refl)  -- WID
+    ▸ plain-register _ _ _ _ (λ p. Hlt) tt (λ p. refl)  -- HLT
+    ▸ plain-register _ _ _ _ (λ p. Sintr) tt (λ p. refl)  -- SINTR
+    ▸ plain-register _ _ _ _ (λ p. Nop) tt (λ p. refl)  -- NOP
+    ▸ plain-register _ _ _ _ (λ p. Xfer) tt (λ p. refl)  -- XFER
+    ▸ plain-register _ _ _ _ (λ p. Wid (bit_of p.rrr 1) (bit_of p.rrr 0)) tt (λ p. refl)  -- WID
     ▸ end
 
 found : (rs : List SummaryRow) (p : Pair) (s : Shape) → Rights rs → lookup rs p ≡ Instruction s → length_of s ≡ pair_length p
