@@ -1,4 +1,6 @@
 // A sweep in one go: all bytes that a block transfer has left, moved by one call.
+#![tactic(auto)]
+
 ghost use Rattle.std.specs.Prelude.{true, ◌≡◌, ◌+◌, ◌≤◌, length};
 ghost use Rattle.ground_rules.specs.Buffers.{lent, within_limits};
 ghost use Rattle.transfer_rules.specs.Ends.{offset_of};
