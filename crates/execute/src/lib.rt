@@ -1,5 +1,7 @@
 // One instruction of a channel: fetched, decoded, worked out in numbers, and its one store and its one register write made
 // last.
+#![tactic(auto)]
+
 ghost use Rattle.std.specs.Prelude.{◌≡◌, true};
 ghost use Rattle.ground_rules.specs.Buffers.{lent, AllBytes};
 ghost use Rattle.ground_rules.specs.Choice.{pick};

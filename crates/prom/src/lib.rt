@@ -1,4 +1,6 @@
 // Firmware from Intel hexadecimal object files: a text is read into lent system memory, whole or not at all.
+#![tactic(auto)]
+
 ghost use Rattle.std.specs.Prelude.{true, false, [], ◌≡◌, ◌+◌, ◌*◌, ◌%◌, ◌<◌, ◌≤◌, length, get_or, drop};
 ghost use Rattle.ground_rules.specs.Buffers.{buffers, store_byte};
 ghost use Rattle.ground_rules.specs.Places.{all_lent};

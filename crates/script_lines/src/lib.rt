@@ -1,4 +1,6 @@
 // The lines that the script program shows, put into a lent buffer behind the text that it has: answers of calls, bytes, and dumps.
+#![tactic(auto)]
+
 ghost use Rattle.std.specs.Prelude.{◌≡◌};
 ghost use Rattle.ground_rules.specs.Buffers.{buffers, lent};
 ghost use Rattle.page.specs.Pages.{page, Behind};
