@@ -1,4 +1,6 @@
 // The step call: one instruction, one transfer step or one external end.
+#![tactic(auto)]
+
 ghost use Rattle.std.specs.Prelude.{◌≡◌, eqb};
 ghost use Rattle.ground_rules.specs.Buffers.{lent};
 ghost use Rattle.ground_rules.specs.Choice.{pick};
