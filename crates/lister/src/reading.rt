@@ -103,7 +103,7 @@ pub struct Reader<'a> {
 
 // A reader at a position.
 pub fn reader_at<'a>(code: &'a [u8], at: usize) -> Reader<'a>
-    ensures { (result.code ≡ code.now) × (result.at ≡ at) }
+    ensures { (result.code ≡ code.entry) × (result.at ≡ at) }
 {
     Reader { code, at }
 }

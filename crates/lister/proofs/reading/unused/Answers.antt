@@ -6,15 +6,10 @@ use native.Mathlib.Omega.{arith}
 use lib.Dec.{eqb}
 use Rattle.ground_rules.specs.Bits.{field_of}
 use Rattle.lister.proofs.UnusedLaws.{unused-bit}
-use borrow.Author.Rules.{rules}
-use Rattle.lister.proofs.reading.unused.Statement.{statement}
-use Rattle.lister.proofs.reading.unused.Tie as tie
+use Rattle.lister.proofs.reading.unused.Goals as goal
 
-returns : tie.Need-returns
+pub returns : goal.returns
 unfolding field_of
 returns c =
     let same : c.args.second / 4 ≡ field_of c.args.second 2 6 = omega arith in
     ap (λ (k : ℕ). eqb (0x90080000FFF020FA / 2 ^ k % 2) 1) same ∙ unused-bit c.args.second
-
-pub unused_spec : {M : Type 1} → statement M
-unused_spec = tie.close (tie.spec (λ c. search rules) (λ c. search rules) (λ c. search rules) returns)
