@@ -1,4 +1,6 @@
 // The text of the trace program (§9): a line for each done step, and the last line.
+#![tactic(auto)]
+
 ghost use Rattle.std.specs.Prelude.{◌≡◌};
 ghost use Rattle.ground_rules.specs.Buffers.{lent};
 ghost use Rattle.ground_rules.specs.States.{channel_of, is_second};
