@@ -1,4 +1,6 @@
 // Both runs for C in one object, so that the code which they share stands in it once.
+#![tactic(auto)]
+
 ghost use Rattle.std.specs.Prelude.{◌≡◌};
 ghost use Rattle.ground_rules.specs.Buffers.{lent};
 ghost use Rattle.run_rules.specs.Run.{run_of, answer_of, called};

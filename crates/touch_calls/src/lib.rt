@@ -1,5 +1,7 @@
 // What the next call touches, for C: a state lives in the caller's bytes, which are only read, as both memories are; the
 // places are told into the caller's words.
+#![tactic(auto)]
+
 ghost use Rattle.std.specs.Prelude.{◌≡◌};
 ghost use Rattle.ground_rules.specs.Buffers.{lent};
 ghost use Rattle.state_rules.specs.Calls as Calls;
