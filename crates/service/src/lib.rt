@@ -1,5 +1,7 @@
 // The machine call by call for C: a state lives in the caller's bytes, and each call takes it from there and leaves it
 // there.
+#![tactic(auto)]
+
 ghost use Rattle.std.specs.Prelude.{true, ◌≡◌, length};
 ghost use Rattle.ground_rules.specs.Buffers.{Buffers, lent};
 ghost use Rattle.ground_rules.specs.States.{reset_state, fresh_of, agree, fields_agree};
