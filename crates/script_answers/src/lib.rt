@@ -1,4 +1,6 @@
 // Makes a call of the script program's text on a machine, and puts what it shows into a lent buffer.
+#![tactic(auto)]
+
 ghost use Rattle.std.specs.Prelude.{◌≡◌, true, [], ◌≤◌, length};
 ghost use Rattle.ground_rules.specs.Buffers.{buffers, lent};
 ghost use Rattle.ground_rules.specs.States.{fresh_of};
