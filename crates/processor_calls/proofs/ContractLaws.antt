@@ -10,7 +10,7 @@ use Rattle.processor_rules.proofs.LiftLaws.{Stays, lifts, lifted-none, lifted-ex
 use Rattle.processor_rules.specs.Lifting.{Called, Lifted, lifted_to, lifted}
 use Rattle.processor_rules.specs.Lifts.{seen_by, LeftAlone, checks_on}
 use Rattle.processor_rules.specs.Processors.{processor_of, buffers_of}
-use Rattle.processor_calls.specs.Contracts.{PairContract, name_in, IsLifted, GoesToOne, NumbersOfOne}
+use Rattle.processor_calls.specs.PairContracts.{PairContract, name_in, IsLifted, GoesToOne, NumbersOfOne}
 
 module _ {S A : Type 0} {c : PairContract S A} {twelve : c.Rest → A} {single : c.Rest → S → Buffers → Called S A} (e : IsLifted c twelve single) where
   pub goes-to-one : GoesToOne c twelve single

@@ -1,5 +1,4 @@
 mod NamedLaws
-mod Passing
 mod ContractLaws
 pub mod Theorems
 pub mod Passed

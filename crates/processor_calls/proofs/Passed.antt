@@ -72,7 +72,7 @@ step-leaves κs a r e p h =
     ap (λ (o : Service). is_state o.bytes) p.0
     ∙ step_stays a.0.now p.1.1.0 (buffers a.1.0.now a.1.1.0.now) h p.1.1.1 a.1.1.1.0
 
--- a schedule's contract is no plain claim to the prover's own walk: what it says of a call is the equation
+-- what a schedule's contract says of a call is the equation
 pub schedule-passed : {M : Type 1} {𝓤 : Ura M} (𝓛 : Logic 𝓤) (mem : Memory → SProp 𝓤) (run : Routine → Fun 𝓤) (κs : Lfts 5) (a : Args schedule.signature κs)
     (r : Res schedule.signature κs) (e : AtExit schedule.ended κs) → (schedule.clauses 𝓛 mem run κs a).ensures tt r e
     ≡ fact 𝓤 (scheduled r (standing e.0.now (buffers e.1.1.0.now e.1.1.1.0.now) e.1.1.1.1.0.now)

@@ -43,7 +43,7 @@ use Rattle.schedule_rules.proofs.ScheduleLaws.{schedule-given}
 use Rattle.processor_rules.specs.Lifting.{Lifted, lifted_to}
 use Rattle.processor_rules.specs.Processors.{Processors, processors, Memories, memories}
 use Rattle.processor_calls.specs.Calls.{Reported, reported, zeros_over, attention_on_bytes, step_on_bytes, power_up_on_bytes, sweep_on_bytes, reset_on_bytes, schedule_on_bytes, pair_reset, pair_power_up, pair_attention, pair_step, pair_sweep, pair_schedule}
-use Rattle.processor_calls.specs.Contracts.{PairContract, IsLifted, GoesToOne, NumbersOfOne}
+use Rattle.processor_calls.specs.PairContracts.{PairContract, IsLifted, GoesToOne, NumbersOfOne}
 use Rattle.processor_calls.proofs.ContractLaws.{goes-to-one, numbers-of-one}
 use Rattle.processor_calls.proofs.iop89_pair_reset.Kinds as reset-kinds
 use Rattle.processor_calls.proofs.iop89_pair_reset.Reads as reset-reads
@@ -199,7 +199,7 @@ reset-numbers =
     numbers-of-one reset-lifted number_of_answer (λ _ b m. reset_checks_on b) (λ _. Unit {0}) (λ _. refl)
     (λ _ b m n. reset-given b n) (λ _ b m _. reset-stays b m)
 
--- ---- a schedule, whose contract is no plain claim to the prover's own walk: what the contract says of a call is an equation, and that is what is read of it
+-- ---- a schedule: what its contract says of a call is an equation, and that is what is read of it
 
 -- a call that met it
 pub record PairScheduleMet : Type 0 where

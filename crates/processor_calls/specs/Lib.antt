@@ -1,2 +1,2 @@
 pub mod Calls
-pub mod Contracts
+pub mod PairContracts

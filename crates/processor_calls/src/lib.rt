@@ -1,5 +1,7 @@
 // Two processors on one board for C: each state lives in the caller's bytes, and each call goes to the processor that a
 // number names; of the other no byte is looked at.
+#![tactic(auto)]
+
 ghost use Rattle.std.specs.Prelude.{◌≡◌};
 ghost use Rattle.processor_rules.specs.Lifting.{lifted_to};
 ghost use Rattle.processor_rules.specs.Processors.{Memories, processors, memories};
