@@ -1,8 +1,7 @@
 -- The fields of CC beside CC: their bits, what calls leave of them, and who changes them.
 -- Assumes nothing.
-use Prim.Native.Nat.{ℕ, ◌+◌, ◌/◌, ◌%◌, ◌^◌}
-use lib.Dec.{eqb}
-use mathlib.Core.Bool.{Bool, true, false}
+use Prim.Native.Nat.{ℕ, ◌+◌, ◌/◌, ◌%◌}
+use mathlib.Core.Bool.{true, false}
 use mathlib.Core.List.{[], ◌∷◌}
 use mathlib.Core.Path.{◌≡◌, refl, sym, ap, ◌∙◌}
 use native.Mathlib.Omega.{arith}
@@ -15,7 +14,6 @@ use Rattle.ground_rules.specs.Registers.{with_register}
 use Rattle.ground_rules.specs.States.{board_with, reset_state, agree}
 use Rattle.ground_rules.specs.declared.Channel.{Channel}
 use Rattle.ground_rules.specs.declared.State.{State}
-use Rattle.ground_rules.specs.Buffers.{Buffers}
 use Rattle.attention_rules.proofs.PowerOutcomes.{power-accepted, found-agree}
 use Rattle.turn_rules.proofs.SoundLaws.{step-agree}
 use Rattle.ground_rules.specs.Bits.{field_of, bit_of}

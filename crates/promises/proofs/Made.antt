@@ -5,9 +5,8 @@ use borrow.Author.Tests.{eqb-true, eqb-false}
 use mathlib.Core.Bool.{Bool, true, false}
 use mathlib.Core.Logic.Iff
 use mathlib.Core.Logic.{◌↔◌}
-use mathlib.Core.Path.{◌≡◌, refl, sym, ap, ◌∙◌}
+use mathlib.Core.Path.{◌≡◌, refl, ap, ◌∙◌}
 use Prim.Native.Nat.{ℕ, ◌≤◌}
-use native.Mathlib.Omega.{arith}
 use Rattle.attention_rules.proofs.Numbers.{attention-ready}
 use Rattle.attention_rules.proofs.Outcomes.{refused-nothing, shared_kept}
 use Rattle.attention_rules.proofs.SoundLaws.{attention-sound, attention-agree}
@@ -29,7 +28,6 @@ use Rattle.ground_rules.specs.declared.State.{State}
 use Rattle.ground_rules.specs.Buffers.{Buffers, AllBytes}
 use Rattle.ground_rules.specs.Values.{onward}
 use Rattle.attention_rules.proofs.PowerOutcomes.{power-accepted, found-sound, found-powered, found-agree}
-use Rattle.attention_rules.specs.Power.{power_up_of}
 use Rattle.turn_rules.proofs.NumberLaws.{step-ready}
 use Rattle.turn_rules.proofs.OutcomeLaws.{refused, board-kept}
 use Rattle.turn_rules.proofs.SoundLaws.{sound-kept, step-agree}

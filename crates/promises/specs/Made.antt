@@ -1,5 +1,5 @@
 -- The states that calls make from a fresh one or from a power-up, and the conditions of 3 and 4 in the words of the table of codes.
-use Rattle.std.specs.Prelude.{Bool, true, false, ◌≡◌, ℕ}
+use Rattle.std.specs.Prelude.{true, false, ◌≡◌, ℕ}
 use Rattle.ground_rules.specs.Buffers.{Buffers, AllBytes}
 use Rattle.ground_rules.specs.Values.{onward}
 use Rattle.ground_rules.specs.States.{fresh_of}

@@ -1,6 +1,6 @@
 -- A row of demand 3 that a power-up begins: zeros with a board's bytes at their top and the copying program in them.
 -- Assumes nothing.
-use Prim.Native.Nat.{ℕ, zero, suc, ◌+◌, ◌<◌, ◌≤◌}
+use Prim.Native.Nat.{ℕ, zero, suc, ◌+◌, ◌≤◌}
 use borrow.Author.Tests.{eqb-false}
 use lib.Dec.{eqb, lit<, lit≤}
 use lib.ListN.{length, get_or, set, replicate}
@@ -30,8 +30,7 @@ use Rattle.promises.specs.Cases.{Stand}
 use Rattle.promises_blocks.specs.Image.{put, layout_of, copy_of, image_in}
 use Rattle.promises_blocks.specs.Met.{zeros_of, zeros}
 use Rattle.promises_blocks.specs.Powering.{RowPowered, top_bytes, boarded_image, RowPoweredMet}
-use Rattle.promises_blocks.specs.Program.{Job, Layout, block_at, doubleword, program_of, most_by, JobReady, RunCopies}
-use Rattle.block_rules.specs.Stages.{Outside}
+use Rattle.promises_blocks.specs.Program.{Job, Layout, block_at, doubleword, program_of, most_by, RunCopies}
 use Rattle.promises.proofs.CaseLaws.{pointer-given}
 use Rattle.promises_blocks.proofs.CopyWitness.{zeros_within}
 use Rattle.promises_blocks.proofs.ImageLaws.{put-length, put_other, stand-put, differ, whole-put, whole-stand, block-low, ready-met, zeros-whole}

@@ -36,7 +36,6 @@ use Rattle.ground_rules.specs.Bits.{bit_of}
 use Rattle.promises.specs.Demand1.{Blank}
 use Rattle.promises_blocks.specs.Powering.{Unused, set_in, configuration_in, control_in, thirteen_after, ResetLeaves, eleven_in, PowerLeaves, board_checks, BoardRuns, Breaks, RowBroken}
 use Rattle.promises.specs.Runs.{LimitOver}
-use Rattle.block_rules.specs.Stages.{Going, Ended}
 use Rattle.promises.proofs.RunLaws.{told-call}
 use Rattle.promises.proofs.SheetLaws.{far-alike}
 

@@ -7,7 +7,7 @@ use mathlib.Core.List.{List, ◌∷◌}
 use mathlib.Core.Path.{◌≡◌, refl, sym, ap, ap₂, subst, ◌∙◌}
 use native.Mathlib.Nat.{mod-mod}
 use native.Mathlib.Omega.{arith}
-use Rattle.ground_rules.specs.Updates.{renewed, with_control, stopped_psw, halted}
+use Rattle.ground_rules.specs.Updates.{renewed, with_control, halted}
 use Rattle.instruction_rules.specs.Lengths.{data_length, displacement_length, length_of}
 use Rattle.instruction_rules.specs.Reading.{lookup, decode_of}
 use Rattle.instruction_rules.specs.Table.{table}

@@ -3,7 +3,7 @@
 -- Assumes nothing.
 use Prim.Native.Nat.{ℕ, suc, ◌+◌, ◌-◌, ◌<◌, ◌≤◌}
 use borrow.Author.Tests.{eqb-false}
-use mathlib.Core.{Bool.Bool, Bool.true, Bool.false, List.List, List.[], List.◌++◌, Logic.inr}
+use mathlib.Core.{Bool.Bool, Bool.true, Bool.false, List.List, List.[], Logic.inr}
 use mathlib.Core.Path.{◌≡◌, refl, sym, ap, subst, ◌∙◌}
 use native.Mathlib.Omega.{arith}
 use Rattle.ground_rules.specs.{declared.Channel.Channel, declared.Fields.Fields, declared.Mode.TheVariants.Suspended, declared.Pointer.Pointer}

@@ -1,7 +1,7 @@
 -- The premises of what comes between the halves can be met, in numbers: two fetches, and a suspend and a resume between them that bring TP and PSW back.
 -- Assumes nothing.
 use Prim.Native.Nat.{ℕ}
-use mathlib.Core.Bool.{Bool, true, false}
+use mathlib.Core.Bool.{true, false}
 use mathlib.Core.List.{[], ◌∷◌}
 use mathlib.Core.Logic.{inl, inr}
 use mathlib.Core.Path.{◌≡◌, refl}

@@ -5,7 +5,6 @@ use lib.Dec.{lit≤}
 use mathlib.Core.Bool.{true, false}
 use mathlib.Core.Path.{◌≡◌, refl}
 use Prim.Native.Nat.{◌-◌}
-use Rattle.ground_rules.specs.Cc.{split}
 use Rattle.ground_rules.specs.Registers.{with_register}
 use Rattle.ground_rules.specs.States.{idle_channel, channel_of}
 use Rattle.ground_rules.specs.declared.State.{State}

@@ -1,6 +1,6 @@
 -- Which instructions are done, and which refused, by the codes of the data sheet in numbers.
 -- Assumes nothing.
-use Prim.Native.Nat.{ℕ, zero, suc, ◌+◌, ◌*◌, ◌<◌}
+use Prim.Native.Nat.{ℕ, zero, suc, ◌+◌, ◌<◌}
 use borrow.Author.Tests.{eqb-false, eqb-true, ne_eqb}
 use lib.Dec.{eqb, lit<, eqb-suc-zero}
 use lib.ListN.{get_or, length}
@@ -13,7 +13,6 @@ use Rattle.ground_rules.proofs.ChoiceLaws.{apart, both_left, both_right}
 use Rattle.ground_rules.proofs.ConditionLaws.{told-exactly, told-touchable}
 use Rattle.ground_rules.specs.Buffers.{Buffers}
 use Rattle.ground_rules.specs.Choice.{pick}
-use Rattle.ground_rules.specs.Places.{all_touchable}
 use Rattle.ground_rules.specs.States.{channel_of, block_of, busy_in}
 use Rattle.ground_rules.specs.declared.State.{State}
 use Rattle.instruction_rules.proofs.NumberLaws.{number-exactly, one-of-four, two-where}
@@ -21,7 +20,7 @@ use Rattle.instruction_rules.specs.Conditions.{PairBeyond, NoSecondPair}
 use Rattle.instruction_rules.specs.Execute.{decoded_at, Executed}
 use Rattle.instruction_rules.specs.MemoryForms.{second_at}
 use Rattle.instruction_rules.specs.Operands.{bytes_at}
-use Rattle.instruction_rules.specs.Pairs.{columns, memory_of}
+use Rattle.instruction_rules.specs.Pairs.{columns}
 use Rattle.instruction_rules.specs.Reading.{fits, lookup, decode_of, number_of, second_number_of}
 use Rattle.instruction_rules.specs.Rows.{is_control}
 use Rattle.instruction_rules.specs.Table.{SummaryRow, table}
@@ -35,9 +34,8 @@ use Rattle.turn_rules.specs.Step.{Step, settled_step, instruction_step, step_of}
 use Rattle.turn_rules.specs.declared.Kind.{Kind}
 use Rattle.promises.proofs.InstructionLaws.{decoded, pair-touchable, turn-executes}
 use Rattle.promises_codes.proofs.CodeNumbers.{decoder-codes}
-use Rattle.promises_codes.specs.Codes.{number_by_codes}
 use Rattle.promises_sheet.specs.SheetDone.{PairTurn, Free, pair_number, DoneSheet}
-use Rattle.promises_sheet.specs.SheetOperands.{PairRan, code_byte, offset_bytes, dd_of}
+use Rattle.promises_sheet.specs.SheetOperands.{PairRan, dd_of}
 use Rattle.promises_sheet.proofs.SheetMemory.{second_is}
 use Rattle.promises_sheet.proofs.SheetOperands.{pair_with, pair_is, memory_with, executed_in}
 

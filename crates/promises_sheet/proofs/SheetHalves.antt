@@ -4,18 +4,18 @@ use Prim.Native.Nat.{ℕ, ◌+◌, ◌/◌, ◌%◌, ◌^◌, ◌<◌}
 use lib.Dec.{eqb, lit<}
 use lib.ListN.{length}
 use mathlib.Core.Bool.{Bool, true, false, not, ◌&&◌, ◌||◌}
-use mathlib.Core.List.{List, [], ◌∷◌}
+use mathlib.Core.List.{[], ◌∷◌}
 use mathlib.Core.Path.{◌≡◌, refl, sym, subst, ap, ap₂, ◌∙◌}
 use native.Mathlib.Nat.{mod-lt}
-use borrow.Author.Tests.{eqb-false, eqb-true, eq-eqb, ne_eqb}
+use borrow.Author.Tests.{eqb-false, eqb-true, eq-eqb}
 use Rattle.instruction_rules.proofs.ChannelLaws.{execute-drops}
 use Rattle.instruction_rules.specs.Execute.{Executed, execute_of}
 use Rattle.ground_rules.proofs.ChannelLaws.{put_same, last-channel}
 use Rattle.ground_rules.proofs.FieldLaws.{agree-channel-of}
 use Rattle.ground_rules.specs.Cc.{split}
 use Rattle.ground_rules.specs.Outcomes.{counted}
-use Rattle.ground_rules.specs.Psw.{transferring, with_psw}
-use Rattle.ground_rules.specs.States.{channel_of, with_channel, fields_agree, agree, block_of, busy_in}
+use Rattle.ground_rules.specs.Psw.{transferring}
+use Rattle.ground_rules.specs.States.{channel_of, with_channel, fields_agree, block_of, busy_in}
 use Rattle.ground_rules.specs.Updates.{with_transfer, holding}
 use Rattle.ground_rules.specs.declared.Channel.{Channel}
 use Rattle.ground_rules.specs.declared.Held.{Held as HeldByte}
@@ -27,17 +27,17 @@ use Rattle.ground_rules.specs.Values.{onward}
 use Rattle.ground_rules.specs.declared.Pointer.{Pointer}
 use Rattle.turn_rules.proofs.NumberLaws.{settled-number}
 use Rattle.turn_rules.specs.declared.Kind.TheVariants.{Instruction}
-use Rattle.turn_rules.specs.Step.{Step, done_step, instruction_step, settled_step, channel_step, chosen_step, entry_number, step_of}
+use Rattle.turn_rules.specs.Step.{Step, instruction_step, settled_step, channel_step, chosen_step, entry_number, step_of}
 use Rattle.turn_rules.specs.Touched.{touched_in, touched_by_step, step_count}
 use Rattle.transfer_rules.proofs.MatchLaws.{low-compared}
 use Rattle.transfer_rules.proofs.PartLaws.{fetch-due, store-due, fetches-two, fetches-word, stores-two, stores-singly, word-stored, singly-stored}
 use Rattle.transfer_rules.proofs.StepLaws.{done-mode, two-plain}
 use Rattle.transfer_rules.specs.Ends.{meets_tmc, code_if, larger, ended_tp, ended_psw, ended_by}
 use Rattle.transfer_rules.specs.Halves.{word_with}
-use Rattle.transfer_rules.specs.Parts.{Part, Whole, FirstFetch, SecondFetch, FirstStore, SecondStore, fetches_apart, stores_apart, fetch_part, store_part, part_of}
+use Rattle.transfer_rules.specs.Parts.{Part, FirstFetch, SecondFetch, FirstStore, SecondStore, fetches_apart, stores_apart, fetch_part, store_part, part_of}
 use Rattle.transfer_rules.specs.Reads.{fetched, fetched_second, entry_of, delivered, data_of, also}
 use Rattle.transfer_rules.specs.Sides.{source, destination, word_side, second_address, gained, two_move, stored_singly}
-use Rattle.transfer_rules.specs.Steps.{touched_by, channel_by, memory_by, bad_mode, touched_by_transfer, transfer_of}
+use Rattle.transfer_rules.specs.Steps.{touched_by, channel_by, memory_by, bad_mode, touched_by_transfer}
 use Rattle.transfer_rules.specs.Stores.{first_meets, match_met, cut_short, stores_two, bytes_stored, end_code, moved_by, move_over, moved_channel, put_on, moved_memory, places_on}
 use Rattle.ground_rules.proofs.ChoiceLaws.{apart, both_left}
 use Rattle.ground_rules.specs.Bits.{field_of, bit_of}
@@ -46,9 +46,9 @@ use Rattle.ground_rules.specs.Compare.{match_of}
 use Rattle.promises.specs.Calls.{HasTurn}
 use Rattle.promises.specs.SheetWords.{bit, field}
 use Rattle.promises_sheet.specs.SheetOperands.{ran_channel}
-use Rattle.promises_sheet.specs.SheetTransfer.{from_pointer, into_pointer, from_second, into_second, first_byte, meets_in, fetches_twice, stores_twice, half_due, Transfers, TransferLeft}
+use Rattle.promises_sheet.specs.SheetTransfer.{from_pointer, into_pointer, from_second, into_second, first_byte, meets_in, fetches_twice, stores_twice, Transfers, TransferLeft}
 use Rattle.promises_sheet.specs.SheetHalves.{is_none, OnlyHeld, pair_less, pair_code, PairLeft, HalfLeft, HalfTouches, Halves, HalfSheet}
-use Rattle.promises.proofs.AgreeLaws.{agreeing, by_bits, done-agrees}
+use Rattle.promises.proofs.AgreeLaws.{agreeing, by_bits}
 use Rattle.promises_sheet.proofs.SheetTransfer.{on, larger-small, pick_small, first-side, second-side, bit-picked, ended-task, ended-status, transfer-left, done-fields, done-number, done-channel, done-memory}
 
 -- ---- by bits

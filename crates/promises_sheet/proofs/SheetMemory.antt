@@ -27,7 +27,7 @@ use Rattle.instruction_rules.specs.Execute.{performed, deed_of}
 use Rattle.instruction_rules.specs.JumpForms.{jump_memory_deed, jump_byte_deed, jump_masked_deed, jump_bit_deed, tsl_deed, call_deed}
 use Rattle.instruction_rules.specs.MemoryForms.{worked_back, memory_work_deed, memory_register_deed, memory_immediate_deed, memory_alone_deed, movp_store_deed, bit_written, bit_deed, second_at, mov_operand_deed, mov_second_deed, mov_memory_deed}
 use Rattle.instruction_rules.proofs.ChangeLaws.{pointer-changed}
-use Rattle.instruction_rules.specs.Changes.{places_of, changed, change, result_to, pointer_to}
+use Rattle.instruction_rules.specs.Changes.{places_of, changed, result_to, pointer_to}
 use Rattle.instruction_rules.specs.Marks.{past_instruction}
 use Rattle.instruction_rules.specs.declared.Change.{Change}
 use Rattle.instruction_rules.specs.Operands.{bytes_at, indexed, further, effective, grown, operand_at, jumped_if, work_of, single_of, after_pair}

@@ -5,7 +5,7 @@ use lib.Dec.{eqb, lit<}
 use lib.ListN.{get_or}
 use mathlib.Core.Bool.{Bool, true, false}
 use mathlib.Core.List.{[], ◌∷◌}
-use mathlib.Core.Path.{◌≡◌, refl, sym, subst, ap, ap₂, ◌∙◌}
+use mathlib.Core.Path.{◌≡◌, refl, ap, ap₂, ◌∙◌}
 use native.Mathlib.Omega.{arith}
 use Rattle.instruction_rules.specs.Lengths.{data_length, displacement_length, length_of}
 use Rattle.instruction_rules.specs.Reading.{lookup}
@@ -33,7 +33,7 @@ use Rattle.ground_rules.specs.Values.{onward, doubleword_at, pointer_at}
 use Rattle.ground_rules.specs.declared.Pointer.{Pointer}
 use Rattle.ground_rules.specs.Bits.{bit_of}
 use Rattle.ground_rules.specs.Choice.{pick}
-use Rattle.promises.specs.SheetWords.{far_in, stored_in, stored_tag_in, tags_of, tag_in, pointing, set_value, set_tag}
+use Rattle.promises.specs.SheetWords.{far_in, stored_in, stored_tag_in, tags_of, tag_in, pointing}
 use Rattle.promises_sheet.specs.SheetOperands.{PairRan, base_tag, operand_address, offset_bytes, grown_by, operand_in, dd_of, displacement_in, whether, works_of, singles_of, registers_at, past_by, jumped_by, value_past, RegistersLeft}
 use Rattle.promises_sheet.specs.SheetRegisters.{Loads, Goes, RegisterSheet}
 use Rattle.promises.proofs.SheetLaws.{far-alike}

@@ -1,12 +1,12 @@
 -- Empty card slots: the promises about them, and that they can be met in numbers.
 -- Assumes nothing.
-use Prim.Native.Nat.{ℕ, zero, suc, ◌+◌, ◌*◌, ◌%◌, ◌≤◌}
+use Prim.Native.Nat.{ℕ, zero, suc, ◌+◌, ◌%◌}
 use borrow.Author.Tests.{ltb-false, le-ltb, not-true}
 use lib.Dec.{eqb}
 use lib.ListN.{length}
 use mathlib.Core.Bool.{Bool, true, false, not, ◌&&◌}
 use mathlib.Core.List.{List, [], ◌∷◌}
-use mathlib.Core.Logic.{◌⊎◌, ⊎_elim, inl, inr}
+use mathlib.Core.Logic.{◌⊎◌, ⊎_elim, inl}
 use mathlib.Core.Path.{◌≡◌, refl, sym, ap, ap₂, ◌∙◌}
 use native.Mathlib.Omega.{arith}
 use Rattle.attention_rules.proofs.Numbers.{touched-2}
@@ -21,10 +21,8 @@ use Rattle.instruction_rules.specs.Rows.{is_control}
 use Rattle.instruction_rules.specs.declared.Decoded.TheVariants.{Instruction, NoInstruction, ControlUsed}
 use Rattle.instruction_rules.proofs.NumberLaws.{number-exactly}
 use Rattle.instruction_rules.specs.Conditions.{PairBeyond}
-use Rattle.instruction_rules.specs.Execute.{Executed, decoded_at, execute_of}
-use Rattle.instruction_rules.specs.Operands.{bytes_at}
+use Rattle.instruction_rules.specs.Execute.{decoded_at, execute_of}
 use Rattle.ground_rules.proofs.ConditionLaws.{told-touchable}
-use Rattle.ground_rules.specs.Psw.{transferring}
 use Rattle.ground_rules.specs.Outcomes.{Outcome}
 use Rattle.ground_rules.specs.States.{fresh_of, channel_of, block_of, busy_in, is_second}
 use Rattle.ground_rules.specs.declared.Channel.{Channel}
@@ -33,7 +31,7 @@ use Rattle.ground_rules.proofs.PlaceLaws.{byte-index, byte-reduced}
 use Rattle.ground_rules.proofs.StoreLaws.{read_same, store-beyond, slot-reads, io-touchable, system-touchable, same-lent}
 use Rattle.ground_rules.specs.Buffers.{Buffers, space_of, limit_of, index_of, lent_at, touchable_at, EmptySlot, byte_at}
 use Rattle.ground_rules.specs.Places.{Place, span, all_pass, all_touchable}
-use Rattle.ground_rules.specs.Values.{pointer, onward, word_at}
+use Rattle.ground_rules.specs.Values.{onward, word_at}
 use Rattle.ground_rules.specs.declared.Pointer.{Pointer}
 use Rattle.run_rules.specs.Run.{ran, steps_from, attended_run, started_run, call_number, run_of}
 use Rattle.turn_rules.proofs.NumberLaws.{settled-number, two-exactly}

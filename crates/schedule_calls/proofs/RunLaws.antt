@@ -1,11 +1,10 @@
 -- What the loop over a schedule's rows holds after some of them: the number before the first row, and what those rows left and counted where it is 0; from the start, one row on, and at the end.
 -- Assumes nothing.
-use mathlib.Core.WellFounded.InvImage
-use mathlib.Core.{WellFounded.WellFounded, Bool.Bool, Bool.true, Bool.false, List.List, List.[], List.◌∷◌, List.◌++◌, List.map}
-use mathlib.Core.{Logic.◌⊎◌, Logic.inl, Logic.inr, Path.◌≡◌, Path.refl, Path.sym, Path.ap, Path.ap₂, Path.◌∙◌}
-use Rattle.std.proofs.Common.{ℕ, ◌+◌, ◌-◌, ◌<◌, ◌≤◌, ltb-false, ltb-true}
+use mathlib.Core.{Bool.Bool, Bool.true, Bool.false, List.List, List.[], List.◌∷◌, List.◌++◌, List.map}
+use mathlib.Core.{Path.◌≡◌, Path.refl, Path.sym, Path.ap, Path.ap₂, Path.◌∙◌}
+use Rattle.std.proofs.Common.{ℕ, ◌+◌, ◌<◌, ◌≤◌}
 use native.Mathlib.{Numerals.add-one, Omega.arith}
-use lib.{WfN.lt-wf_rel, Dec.ltb, ListN.length, ListN.get_or, ListN.take, Seq.take-suc, Seq.take-length, Seq.length-take-le}
+use lib.{ListN.length, ListN.get_or, ListN.take, Seq.take-suc, Seq.take-length, Seq.length-take-le}
 use Rattle.ground_rules.{proofs.ChoiceLaws.apart, specs.Choice.pick}
 use Rattle.state_rules.specs.Layout.{bytes_of, state_in, is_state}
 use Rattle.schedule_rules.specs.Reports.{all_counts, no_report, report_of, schedule_of, put_over}
@@ -59,8 +58,9 @@ module _ (x : Standing) (rows : List ScheduleRow) (number : ℕ) (first : number
   zero_is z = go (is_state x.bytes) (all_known rows) first
     where
       go : (b k : Bool) → number ≡ pick b (pick k 0 16) 17 → (b ≡ true) × (k ≡ true)
-      go true k = elim k [ true ↦ λ h. (refl, refl) | false ↦ λ h. absurd (omega arith) ]
-      go false k = λ h. absurd (omega arith)
+      go true true h = (refl, refl)
+      go true false h = absurd (omega arith)
+      go false k h = absurd (omega arith)
 
   pub along-start : Along x rows number 0 (cleared_at x)
   unfolding rows_left report_of over_rows
@@ -110,10 +110,3 @@ module _ (x : Standing) (rows : List ScheduleRow) (number : ℕ) (first : number
       go false is k known =
           let seventeen : number ≡ 17 = first ∙ rw is in
           rw (h.stays (λ z. absurd (omega arith)), seventeen, is) (refl, λ st. apart (sym st))
-
--- turns whose number grows up to n come to an end
-pub ends_by : {A : Type 0} (n : ℕ) (i : A → ℕ) → WellFounded (λ (u v : A). n - i u < n - i v)
-ends_by n i = InvImage.wf (λ u. n - i u) lt-wf_rel.wf
-
-pub lt-or-ge : (i n : ℕ) → (i < n) ⊎ (n ≤ i)
-lt-or-ge i n = elim (ltb i n) as (λ b. ltb i n ≡ b → (i < n) ⊎ (n ≤ i)) [ true ↦ λ e. inl (ltb-true i n e) | false ↦ λ e. inr (ltb-false i n e) ] refl

@@ -4,10 +4,10 @@ use mathlib.Core.{List.map, Bool.true, List.List, List.[], List.◌∷◌, List.
 use Rattle.std.proofs.Common.{ℕ, zero, suc, ◌+◌, ◌<◌, length, get_or, arith}
 use seplogic.Ra.Ura.{Ura}
 use base.Logic.{SProp, ent, via}
-use prog.{Memory.Memory, Routine.Routine, Wp.Heap}
+use prog.{Memory.Memory, Routine.Routine}
 use types.Logic.{Logic}
 use contract.{Conj.conj, Conj.conj_l, Conj.conj_r, Lifetimes.Lfts, Monad.Fun, Monad.fact, Monad.fact_i, Monad.fact_mono, Monad.fact_use}
-use denote.{Ref.now, Triple.Clauses.AtExit, Triple.Entry.Args, Triple.Entry.Res}
+use denote.{Triple.Clauses.AtExit, Triple.Entry.Args, Triple.Entry.Res}
 use Rattle.ground_rules.{specs.Buffers.Buffers, specs.Buffers.buffers, proofs.ChoiceLaws.both_left, proofs.ChoiceLaws.both_right}
 use Rattle.state_rules.{proofs.ForthLaws.bytes_back, specs.Conditions.Bytes, specs.Layout.bytes_of, specs.Layout.state_in, specs.Layout.is_state}
 use Rattle.schedule_rules.specs.{Counts.RowCount, Counts.over_rows, Reports.all_counts, Reports.Scheduled, Reports.report_of, Reports.put_over, Rows.Bench, Rows.bench}
@@ -31,7 +31,8 @@ word-at (w ∷ ws) (x ∷ xs) (suc i) h l = word-at ws xs i (omega arith) (omega
 count_at : (fs : List RowCount) (p : Bench) (a b : List ScheduleRow) (i : ℕ)
     → get_or (map (λ f. over_rows f p (a ++ b)) fs) i 0 ≡ get_or (map (λ f. over_rows f p a) fs) i 0 + get_or (map (λ f. over_rows f (rows_left p a) b) fs) i 0
 count_at [] p a b i = refl
-count_at (f ∷ fs) p a b i = elim i [ zero ↦ over-cut f p a b | suc j ↦ count_at fs p a b j ]
+count_at (f ∷ fs) p a b zero = over-cut f p a b
+count_at (f ∷ fs) p a b (suc j) = count_at fs p a b j
 
 -- of a state's bytes and rows of known kinds
 module _ (x : Standing) (rows : List ScheduleRow) (is : is_state x.bytes ≡ true) (known : all_known rows ≡ true) (r : ℕ) (y : Standing) (met : ScheduleMet r y x rows) where
@@ -105,13 +106,13 @@ module _ {M : Type 1} {𝓤 : Ura M} (𝓛 : Logic 𝓤) (mem : Memory → SProp
   Said a r e = (schedule.clauses 𝓛 mem run κs a).ensures tt r e
 
   abbrev pub given_to : Given → Standing
-  given_to a = standing (now a.0) (buffers (now a.1.1.0) (now a.1.1.1.0)) (now a.1.1.1.1.0)
+  given_to a = standing a.0.now (buffers a.1.1.0.now a.1.1.1.0.now) a.1.1.1.1.0.now
 
   abbrev pub left_by : Left → Standing
-  left_by e = standing (now e.0) (buffers (now e.1.1.0) (now e.1.1.1.0)) (now e.1.1.1.1.0)
+  left_by e = standing e.0.now (buffers e.1.1.0.now e.1.1.1.0.now) e.1.1.1.1.0.now
 
   abbrev Met : Given → Answer → Left → Type 0
-  Met a r e = ScheduleMet r (left_by e) (given_to a) (now a.1.0)
+  Met a r e = ScheduleMet r (left_by e) (given_to a) a.1.0.now
 
   -- one outcome: two answers that meet it are the same, with all that is left
   pub one-schedule : (a : Given) (r q : Answer) (e f : Left)
@@ -119,23 +120,23 @@ module _ {M : Type 1} {𝓤 : Ura M} (𝓛 : Logic 𝓤) (mem : Memory → SProp
   one-schedule a r q e f = fact_use 𝓤 (Met a r e) (conj_l 𝓤 _ _) (λ m. fact_use 𝓤 (Met a q f) (conj_r 𝓤 _ _) (λ n. fact_i 𝓤 _ _ (m.0 ∙ sym n.0)))
 
   -- of known kinds the first two words add up to the rows given
-  pub words-add-up : (a : Given) (r : Answer) (e : Left) → is_state (given_to a).bytes ≡ true → all_known (now a.1.0) ≡ true
-      → 1 < length (given_to a).words → ent 𝓤 (Said a r e) (fact 𝓤 (get_or (left_by e).words 0 0 + get_or (left_by e).words 1 0 ≡ length (now a.1.0)))
-  words-add-up a r e is known l = fact_mono 𝓤 (Met a r e) _ (λ m. adds-up (given_to a) (now a.1.0) is known r (left_by e) m l)
+  pub words-add-up : (a : Given) (r : Answer) (e : Left) → is_state (given_to a).bytes ≡ true → all_known a.1.0.now ≡ true
+      → 1 < length (given_to a).words → ent 𝓤 (Said a r e) (fact 𝓤 (get_or (left_by e).words 0 0 + get_or (left_by e).words 1 0 ≡ length a.1.0.now))
+  words-add-up a r e is known l = fact_mono 𝓤 (Met a r e) _ (λ m. adds-up (given_to a) a.1.0.now is known r (left_by e) m l)
 
   -- a row alone that is refused leaves the state's bytes and both memories
-  pub refused-same : (a : Given) (r : Answer) (e : Left) (row : ScheduleRow) → now a.1.0 ≡ row ∷ [] → is_state (given_to a).bytes ≡ true
+  pub refused-same : (a : Given) (r : Answer) (e : Left) (row : ScheduleRow) → a.1.0.now ≡ row ∷ [] → is_state (given_to a).bytes ≡ true
       → Bytes (given_to a).bytes → all_known (row ∷ []) ≡ true → ¬ (row_number (bench_in (given_to a)) row ≡ 0) → ent 𝓤 (Said a r e) (fact 𝓤 (((left_by e).bytes ≡ (given_to a).bytes) × ((left_by e).memory ≡ (given_to a).memory)))
   unfolding rows_left
   refused-same a r e row one is byte known refused =
-      fact_mono 𝓤 (Met a r e) _ (λ m. let k = rw one at m in same_after (given_to a) (row ∷ []) is known r (left_by e) k byte (refused-row (bench_in (given_to a)) row refused))
+      fact_mono 𝓤 (Met a r e) _ (λ m. let k = subst (λ (rs : List ScheduleRow). ScheduleMet r (left_by e) (given_to a) rs) one m in same_after (given_to a) (row ∷ []) is known r (left_by e) k byte (refused-row (bench_in (given_to a)) row refused))
 
   -- a schedule cut into two calls, the second from what the first left, leaves what one call over all rows does
   pub cut-same : (a b c : Given) (r q s : Answer) (e f g : Left) → is_state (given_to a).bytes ≡ true
-      → all_known (now a.1.0 ++ now b.1.0) ≡ true → (given_to b).bytes ≡ (left_by e).bytes → (given_to b).memory ≡ (left_by e).memory → length (given_to b).words ≡ length (given_to a).words
-      → given_to c ≡ given_to a → now c.1.0 ≡ now a.1.0 ++ now b.1.0
+      → all_known (a.1.0.now ++ b.1.0.now) ≡ true → (given_to b).bytes ≡ (left_by e).bytes → (given_to b).memory ≡ (left_by e).memory → length (given_to b).words ≡ length (given_to a).words
+      → given_to c ≡ given_to a → c.1.0.now ≡ a.1.0.now ++ b.1.0.now
       → ent 𝓤 (conj 𝓤 (Said a r e) (conj 𝓤 (Said b q f) (Said c s g))) (fact 𝓤 (CutAlike (left_by e) (left_by f) (left_by g) (length (given_to a).words)))
   cut-same a b c r q s e f g is known bytes memory n same rows =
       fact_use 𝓤 (Met a r e) (conj_l 𝓤 _ _) (λ m. fact_use 𝓤 (Met b q f) (via 𝓤 _ (conj_r 𝓤 _ _) (conj_l 𝓤 _ _)) (λ k. fact_use 𝓤 (Met c s g) (via 𝓤 _ (conj_r 𝓤 _ _) (conj_r 𝓤 _ _))
-      (λ l. let whole : ScheduleMet s (left_by g) (given_to a) (now a.1.0 ++ now b.1.0) = subst (λ (x : Standing). ScheduleMet s (left_by g) x (now a.1.0 ++ now b.1.0)) same (subst (λ (rs : List ScheduleRow). ScheduleMet s (left_by g) (given_to c) rs) rows l) in
-      fact_i 𝓤 _ _ (cut-alike (given_to a) (given_to b) (now a.1.0) (now b.1.0) is known r q s (left_by e) (left_by f) (left_by g) m bytes memory n k whole))))
+      (λ l. let whole : ScheduleMet s (left_by g) (given_to a) (a.1.0.now ++ b.1.0.now) = subst (λ (x : Standing). ScheduleMet s (left_by g) x (a.1.0.now ++ b.1.0.now)) same (subst (λ (rs : List ScheduleRow). ScheduleMet s (left_by g) (given_to c) rs) rows l) in
+      fact_i 𝓤 _ _ (cut-alike (given_to a) (given_to b) a.1.0.now b.1.0.now is known r q s (left_by e) (left_by f) (left_by g) m bytes memory n k whole))))

@@ -11,7 +11,7 @@ use Rattle.attention_rules.{proofs.Numbers.attention-most, specs.Attention.atten
 use Rattle.transfer_rules.{proofs.CountLaws.reads-most, specs.Parts.part_of, specs.Steps.reads_by}
 use Rattle.turn_rules.proofs.{NumberLaws.step-most, OutcomeLaws.by-step}
 use Rattle.turn_rules.specs.declared.Kind.{Kind, TheVariants.Nothing, TheVariants.Instruction, TheVariants.Transfer, TheVariants.External}
-use Rattle.turn_rules.specs.{Choosing.requested, Step.Step, Step.step_of, Touched.step_count}
+use Rattle.turn_rules.specs.{Choosing.requested, Step.Step, Step.stepped, Step.step_of, Touched.step_count}
 use Rattle.state_rules.proofs.NumberLaws.{number-part, channel-part, kind-part, count-part}
 use Rattle.state_rules.specs.Calls.{Service, served, kind_number, answer_from, attention_served, step_left, step_served}
 use Rattle.state_rules.specs.{Conditions.Bytes, Layout.bytes_of, Layout.state_in, Layout.is_state}
@@ -70,8 +70,8 @@ module _ (s : State) (m : Buffers) (lines : ℕ) where
   few : (took.channel < 4) × (kind_number took.kind < 4)
   unfolding channel_number kind_number
   few =
-      let channel : (b : Bool) → channel_number b < 4 = λ b. elim b [ true ↦ lit< tt | false ↦ lit< tt ] in
-      let kind : (k : Kind) → kind_number k < 4 = λ k. elim k [ Nothing ↦ lit< tt | Instruction ↦ lit< tt | Transfer ↦ lit< tt | External ↦ lit< tt ] in
+      let channel : (b : Bool) → channel_number b < 4 = λ b. elim b as (λ v. channel_number v < 4) [ true ↦ lit< tt | false ↦ lit< tt ] in
+      let kind : (k : Kind) → kind_number k < 4 = λ k. elim k as (λ v. kind_number v < 4) [ Nothing ↦ lit< tt | Instruction ↦ lit< tt | Transfer ↦ lit< tt | External ↦ lit< tt ] in
       (by-step s m lines (λ (t : Step). t.channel < 4) (λ k ne. lit< tt) (λ b z e. channel b) (λ b z e f. channel b) (λ b z e f. channel b), kind took.kind)
 
   -- the bytes that a channel's next transfer step stores, and whether it waits
@@ -87,19 +87,31 @@ module _ (s : State) (m : Buffers) (lines : ℕ) where
       0 ∷ 0 ∷ (once_if (is_done is_instruction b t) + 0) ∷ (once_if (is_done is_transfer b t) + 0) ∷ (pick (is_done is_transfer b t) (storing b) 0 + 0)
       ∷ (once_if (is_done is_external b t) + 0) ∷ (once_if (waiting b) + 0) ∷ []
 
+  -- what the code adds for a step row, by what the step answers, is what is counted of it
+  abbrev AddsFor : ℕ → Step → Type 0
+  AddsFor n t =
+      ((second : Bool) → is_done is_transfer second t ≡ true → n ≡ storing second)
+      → CountedAs ((once_if (eqb t.number 0) + 0) ∷ (once_if (not (eqb t.number 0)) + 0) ∷ counted_of t false ++ counted_of t true)
+      (step_adds (waiting false) (waiting true) (eqb t.number 0) (eqb t.channel 2) (kind_number t.kind) n)
+
+  -- a done step of a channel and a kind: its state and memory are not looked at
+  abbrev done_of : Bool → Kind → Step
+  done_of second kind = stepped 0 s m (channel_number second) kind
+
   -- what the code adds for a step row is that row's report
   step-adds : (n : ℕ) → ((second : Bool) → is_done is_transfer second took ≡ true → n ≡ storing second)
       → CountedAs (report_of (bench s m) (step_row lines ∷ []))
       (step_adds (waiting false) (waiting true) (eqb took.number 0) (eqb took.channel 2) (kind_number took.kind) n)
   unfolding counts_open kind_number
   step-adds n =
-      by-step s m lines (λ (t : Step). ((second : Bool) → is_done is_transfer second t ≡ true → n ≡ storing second)
-      → CountedAs ((once_if (eqb t.number 0) + 0) ∷ (once_if (not (eqb t.number 0)) + 0) ∷ counted_of t false ++ counted_of t true)
-      (step_adds (waiting false) (waiting true) (eqb t.number 0) (eqb t.channel 2) (kind_number t.kind) n))
+      by-step s m lines (AddsFor n)
       (λ k ne h. rw (ne_eqb k 0 ne) (refl, simp (add-zero, zero-add)))
-      (λ b z e h. elim b [ true ↦ (refl, simp (add-zero, zero-add)) | false ↦ (refl, simp (add-zero, zero-add)) ])
-      (λ b z e f. elim b [ true ↦ λ h. rw (h true refl) (refl, simp (add-zero, zero-add)) | false ↦ λ h. rw (h false refl) (refl, simp (add-zero, zero-add)) ])
-      (λ b z e f h. elim b [ true ↦ (refl, simp (add-zero, zero-add)) | false ↦ (refl, simp (add-zero, zero-add)) ])
+      (λ b z e. elim b as (λ v. AddsFor n (done_of v External)) [ true ↦ λ h. (refl, simp (add-zero, zero-add)) | false ↦ λ h. (refl, simp (add-zero, zero-add)) ])
+      (λ b z e f. elim b as (λ v. AddsFor n (done_of v Transfer)) [
+        | true ↦ λ h. rw (h true refl) (refl, simp (add-zero, zero-add))
+        | false ↦ λ h. rw (h false refl) (refl, simp (add-zero, zero-add))
+      ])
+      (λ b z e f. elim b as (λ v. AddsFor n (done_of v Instruction)) [ true ↦ λ h. (refl, simp (add-zero, zero-add)) | false ↦ λ h. (refl, simp (add-zero, zero-add)) ])
 
   -- the bytes that a transfer step touched are those that its channel was to read and those that it stored
   abbrev Parted : Found → Found → ℕ → Type 0
@@ -114,18 +126,23 @@ module _ (s : State) (m : Buffers) (lines : ℕ) where
       let all = counts (omega (arith, reads-most c m (part_of c), stores-most (part_of c) c m)) in
       let read : (b : Bool) → let c = channel_of s b in
       transferring c.psw ≡ true → pick (eqb (channel_number b) 2) g.reads f.reads ≡ length (reads_by (part_of c) c m) =
-      λ b. elim b [ true ↦ λ on. two.1 on m | false ↦ λ on. one.1 on m ] in
+      λ b. elim b as (λ v. transferring (channel_of s v).psw ≡ true → pick (eqb (channel_number v) 2) g.reads f.reads ≡ length (reads_by (part_of (channel_of s v)) (channel_of s v) m))
+      [ true ↦ λ on. two.1 on m | false ↦ λ on. one.1 on m ] in
       rw (says.holds h).0.1 (omega (arith, read second (transfer-chosen s m lines second h).2))
 
   -- so no more were read than were touched
+  abbrev Within : (Bool → ℕ) → ℕ → Step → Type 0
+  Within reads count t =
+      ((second : Bool) → is_done is_transfer second t ≡ true → reads (eqb t.channel 2) ≤ count) → t.number ≡ 0 → kind_number t.kind ≡ 2 → reads (eqb t.channel 2) ≤ count
+
   read-within : (reads : Bool → ℕ) (count : ℕ) → ((second : Bool) → is_done is_transfer second took ≡ true → reads (eqb took.channel 2) ≤ count)
       → took.number ≡ 0 → kind_number took.kind ≡ 2 → reads (eqb took.channel 2) ≤ count
   unfolding kind_number channel_number
   read-within reads count =
-      by-step s m lines (λ (t : Step). ((second : Bool) → is_done is_transfer second t ≡ true → reads (eqb t.channel 2) ≤ count) → t.number ≡ 0 → kind_number t.kind ≡ 2 → reads (eqb t.channel 2) ≤ count)
+      by-step s m lines (Within reads count)
       (λ k ne h z two. absurd (ne z))
       (λ b z e h y two. absurd (omega (arith, two)))
-      (λ b z e f. elim b [ true ↦ λ h y two. h true refl | false ↦ λ h y two. h false refl ])
+      (λ b z e f. elim b as (λ v. Within reads count (done_of v Transfer)) [ true ↦ λ h y two. h true refl | false ↦ λ h y two. h false refl ])
       (λ b z e f h y two. absurd (omega (arith, two)))
 
 -- an answer of the step call by its parts
@@ -155,13 +172,13 @@ step-reads b m lines answer b' m' f g is e one two done moved =
     rw parts.1 (read-within s m lines (λ (second : Bool). pick second g.reads f.reads) (answer / 4096) (λ second h. omega (arith, all second h)) (sym parts.0 ∙ done) (sym parts.2 ∙ moved))
 
 -- what the step call leaves of a state's bytes is what the row leaves
-pub step_row : (b : List ℕ) (m : Buffers) (w : List ℕ) (lines answer : ℕ) (b' : List ℕ) (m' : Buffers) (w' : List ℕ) (f g : Found) → is_state b ≡ true → Bytes b → AllBytes m → FitWords w
+pub step-row : (b : List ℕ) (m : Buffers) (w : List ℕ) (lines answer : ℕ) (b' : List ℕ) (m' : Buffers) (w' : List ℕ) (f g : Found) → is_state b ≡ true → Bytes b → AllBytes m → FitWords w
     → served answer b' m' ≡ step_served b m lines → state_in b' ≡ (step_of (state_in b) m lines).state
     → FoundOf (state_in b) lines false f → FoundOf (state_in b) lines true g
     → w' ≡ added_all (step_adds f.waits g.waits (eqb (answer % 256) 0) (eqb (answer / 256 % 4) 2) (answer / 1024 % 4) (answer / 4096 - pick (eqb (answer / 256 % 4) 2) g.reads f.reads)) w
     → RowRun (step_row lines) (standing b m w) (standing b' m' w')
 unfolding row_left step_served
-step_row b m w lines answer b' m' w' f g is byte all small e whole one two counts =
+step-row b m w lines answer b' m' w' f g is byte all small e whole one two counts =
     let s = state_in b in
     let parts = step-parts b m lines answer b' m' is e in
     let left : served answer b' m' ≡ step_left (step_of s m lines) (step_count s m lines) = rw is at e in

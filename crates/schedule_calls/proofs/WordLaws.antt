@@ -17,14 +17,17 @@ unfolding put_over
 clear_next n xs = rw (add-one n) (go n xs)
   where
     go : (k : ℕ) (ys : List ℕ) → set (put_over (replicate k 0) ys) k 0 ≡ put_over (replicate (suc k) 0) ys
-    go zero ys = elim ys [ [] ↦ refl | y ∷ l ↦ refl ]
-    go (suc k) ys = elim ys [ [] ↦ refl | y ∷ l ↦ ap (λ (xs : List ℕ). 0 ∷ xs) (go k l) ]
+    go zero [] = refl
+    go zero (y ∷ l) = refl
+    go (suc k) [] = refl
+    go (suc k) (y ∷ l) = ap (λ (xs : List ℕ). 0 ∷ xs) (go k l)
 
 -- nothing changes how many there are
 pub over-length : (ws xs : List ℕ) → length (put_over ws xs) ≡ length xs
 unfolding put_over
 over-length [] xs = refl
-over-length (w ∷ ws) xs = elim xs [ [] ↦ refl | x ∷ l ↦ ap suc (over-length ws l) ]
+over-length (w ∷ ws) [] = refl
+over-length (w ∷ ws) (x ∷ l) = ap suc (over-length ws l)
 
 -- ---- added to
 
@@ -57,8 +60,10 @@ all_below n (p ∷ ps) = ltb p.0 n && all_below n ps
 one_on : (at by : ℕ) (ws xs : List ℕ) → at < length ws → added_at at by (added_on ws xs) ≡ added_on (set ws at (get_or ws at 0 + by)) xs
 unfolding added_at added_on
 one_on at by [] xs h = absurd (omega arith)
-one_on zero by (w ∷ ws) xs h = elim xs [ [] ↦ refl | x ∷ l ↦ ap (λ (n : ℕ). n ∷ added_on ws l) (omega arith) ]
-one_on (suc at) by (w ∷ ws) xs h = elim xs [ [] ↦ refl | x ∷ l ↦ ap (λ (k : List ℕ). ((x + w) % 2 ^ 64) ∷ k) (one_on at by ws l (omega arith)) ]
+one_on zero by (w ∷ ws) [] h = refl
+one_on zero by (w ∷ ws) (x ∷ l) h = ap (λ (n : ℕ). n ∷ added_on ws l) (omega arith)
+one_on (suc at) by (w ∷ ws) [] h = refl
+one_on (suc at) by (w ∷ ws) (x ∷ l) h = ap (λ (k : List ℕ). ((x + w) % 2 ^ 64) ∷ k) (one_on at by ws l (omega arith))
 
 all-on : (ps : List (ℕ × ℕ)) (ws xs : List ℕ) → all_below (length ws) ps ≡ true → added_all ps (added_on ws xs) ≡ added_on (plus_all ps ws) xs
 unfolding added_all

@@ -1,4 +1,6 @@
 // A bench schedule for C: rows are run from a state's bytes, and their report is left in lent words.
+#![tactic(auto)]
+
 ghost use mathlib.Core.{Bool.true, Bool.◌||◌, Path.◌≡◌};
 ghost use Rattle.ground_rules.specs.{Choice.pick, Buffers.lent};
 ghost use Rattle.state_rules.specs.Layout.{bytes_of, state_in, is_state};

@@ -11,5 +11,5 @@ use Rattle.sweep_call.proofs.iop89_sweep.Reads as sweep-reads
 
 pub sweep-passed : (κs : Lfts 3) (a : Dens κs sweep-kinds.ps) (r : (res_t sweep-kinds.r κs).Denot) (e : AtExit (ended_of 3 sweep-kinds.ps sweep-kinds.r) κs)
     → sweep-reads.Post κs a r e
-    → served r e.0.now (lent e.1.0 e.1.1.0) ≡ sweep_served a.0.now (lent a.1.0 a.1.1.0) a.1.1.1.0 a.1.1.1.1.0
+    → served r e.0.now (lent e.1.0.now e.1.1.0.now) ≡ sweep_served a.0.now (lent a.1.0.now a.1.1.0.now) a.1.1.1.0 a.1.1.1.1.0
 sweep-passed κs a r e p = p
