@@ -1,4 +1,6 @@
 // Makes the calls of the script on standard input, one a line, on one machine, and prints what each answered; what was no call goes in words to standard error.
+#![tactic(auto)]
+
 ghost use Rattle.std.specs.Prelude.{◌≡◌, false, ◌+◌, ◌≤◌, ◌<◌, min, length, drop};
 ghost use Rattle.ground_rules.specs.Choice.{pick};
 ghost use Rattle.script_text.specs.Calls.{Limited};
@@ -6,9 +8,10 @@ ghost use Rattle.script_text.specs.Text.{until_same};
 ghost use Rattle.script.specs.Lent.{lent_after};
 ghost use Rattle.script.specs.Lines.{content_end, closes_file, file_end};
 
-use libc::{STDERR_FILENO, STDIN_FILENO, STDOUT_FILENO};
 use script_text::text;
 use script_text::text::ScriptCall;
+use std::io;
+use std::io::Read;
 
 // How many bytes of each buffer are lent.
 #[derive(Clone, Copy)]
@@ -157,26 +160,23 @@ fn feeds(text: &[u8]) -> usize
     count
 }
 
-// Says words on standard error.
-fn say(words: &[u8]) {
-    io::write_all(STDERR_FILENO, words);
+// Says a line of words on standard error.
+fn say(rt: HostRuntime, words: &str) -> io::Result<()> {
+    eprintln!(rt; "{words}")
 }
 
 // Says which line, counted from 1, was no call, or was shut out.
-fn complain(number: usize, call: ScriptCall) {
-    say(b"line ");
-    io::print_decimal(STDERR_FILENO, number as u64);
-    match call {
-        ScriptCall::Put(_, _) => say(b": a byte past the buffer's end\n"),
-        ScriptCall::Listing(_, _, _) => say(
-            b": no part of the buffer, or one of more than 1024 bytes\n",
-        ),
-        _ => say(b": no call\n"),
-    }
+fn complain(rt: HostRuntime, number: usize, call: ScriptCall) -> io::Result<()> {
+    let why = match call {
+        ScriptCall::Put(_, _) => "a byte past the buffer's end",
+        ScriptCall::Listing(_, _, _) => "no part of the buffer, or one of more than 1024 bytes",
+        _ => "no call",
+    };
+    eprintln!(rt; "line {number}: {why}")
 }
 
 // Makes the calls of a text, line by line, and writes out what each shows.
-fn play(text: &[u8], sys: &mut [u8], io: &mut [u8])
+fn play(rt: HostRuntime, text: &[u8], sys: &mut [u8], io: &mut [u8]) -> io::Result<()>
     requires text_len_bound { length text.now ≤ 1048576 }
     requires value { (1048577 ≡ length sys.old) × (65537 ≡ length io.old) }
 {
@@ -208,15 +208,16 @@ fn play(text: &[u8], sys: &mut [u8], io: &mut [u8])
             &mut out,
         );
         let count = r.count;
-        io::write_all(STDOUT_FILENO, &out[..count]);
+        rt.write_all(&out[..count])?;
         if !r.made {
-            complain(number, call);
+            complain(rt, number, call)?;
         }
         number += feeds(&text[at..next_at]);
         let next = r.state;
         state = next;
         at = next_at;
     }
+    Ok(())
 }
 
 // An array as it is, with its length stated: the prover would count the zeros of so long a one.
@@ -240,19 +241,14 @@ fn small_space() -> [u8; 65537]
     [0; 65537]
 }
 
-fn main() {
-    let mut text = large_space();
+fn main(rt: HostRuntime) -> io::Result<()> {
+    let mut text = Vec::new(rt.alloc());
+    rt.stdin().take(1048577).read_to_end(&mut text)?;
+    if 1048576 < text.len() {
+        println!(rt; "?")?;
+        return say(rt, "the text is longer than 1048576 bytes");
+    }
     let mut sys = large_space();
     let mut io = small_space();
-    let length = io::read_full(STDIN_FILENO, &mut text);
-    if os::errno() != 0 {
-        os::fail(b"standard input");
-        return;
-    }
-    if 1048576 < length {
-        io::write_all(STDOUT_FILENO, b"?\n");
-        say(b"the text is longer than 1048576 bytes\n");
-        return;
-    }
-    play(&text[..length], &mut sys, &mut io);
+    play(rt, text.as_slice(), &mut sys, &mut io)
 }

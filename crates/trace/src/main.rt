@@ -1,39 +1,78 @@
 // Writes the trace of the image on standard input (§9) to standard output, and what stopped its run in words to standard error.
-use libc::{STDERR_FILENO, STDIN_FILENO, STDOUT_FILENO};
+#![tactic(auto)]
+
+ghost use Rattle.std.specs.Prelude.{◌≡◌, IfOk, IfSome, OnOk, take};
+ghost use Rattle.std.specs.Io.KnownBytes.{Appends};
+ghost use Rattle.trace_text.specs.Trace.{trace_of, traced_run};
+
+use std::alloc::Global;
+use std::io;
+use std::io::{Read, Write};
+
+// The bytes that a reader has left, 4,097 of them at most: one more than an image may have.
+fn image_of<R: Read>(alloc: Global, input: R) -> io::Result<Vec<u8>>
+where
+    R: Drop,
+    ensures { IfOk result (λ image. IfSome (R.remaining input) (λ left. image.items ≡ take 4097 left)) }
+{
+    let mut image = Vec::new(alloc);
+    input.take(4097).read_to_end(&mut image)?;
+    Ok(image)
+}
+
+// Puts the trace of an image behind what a writer has, and answers the number of the run.
+fn show<W: Write>(image: &mut [u8], out: &mut W) -> io::Result<u32>
+    ensures text { OnOk result (Appends (W.contents out.old) (W.contents out.new) (trace_of image.old)) }
+    ensures number { IfOk result (λ number. number ≡ (traced_run image.old).number) }
+{
+    let mut text = [0u8; 32768];
+    let run = trace_text::trace(image, &mut text);
+    out.write_all(&text[..run.count])?;
+    Ok(run.number)
+}
+
+// Traces the image that a reader has left, puts the text behind what a writer has, and answers the number of the run.
+fn traced<R: Read, W: Write>(alloc: Global, input: R, out: &mut W) -> io::Result<u32>
+where
+    R: Drop,
+    ensures text { OnOk result (IfSome (R.remaining input) (λ left. Appends (W.contents out.old) (W.contents out.new) (trace_of (take 4097 left)))) }
+    ensures number { IfOk result (λ number. IfSome (R.remaining input) (λ left. number ≡ (traced_run (take 4097 left)).number)) }
+{
+    let mut image = image_of(alloc, input)?;
+    show(image.as_mut_slice(), out)
+}
 
 // Says a line of words on standard error.
-fn say(words: &[u8]) {
-    io::write_all(STDERR_FILENO, words);
+fn say(rt: HostRuntime, words: &str) -> io::Result<()> {
+    eprintln!(rt; "{words}")
 }
 
 // Says what a number means (§3.1); nothing where the run came to its limit. 8, 10 and 12 never come from a trace.
-fn explain(number: u32) {
+fn explain(rt: HostRuntime, number: u32) -> io::Result<()> {
     match number {
-        1 => say(b"no channel can run\n"),
+        1 => say(rt, "no channel can run"),
         2 => say(
-            b"refused: 2, a byte of system space to be read or stored lies beyond lent memory\n",
+            rt,
+            "refused: 2, a byte of system space to be read or stored lies beyond lent memory",
         ),
-        3 => say(b"refused: 3, the bytes are no instruction\n"),
-        4 => say(b"refused: 4, CC is used by another instruction than MOV or MOVI\n"),
-        5 => say(b"refused: 5, a transfer with SYN 11, or a translation with a 16-bit side\n"),
-        6 => say(b"refused: 6, the command is 010 or 100\n"),
-        7 => say(b"refused: 7, a resume, and the channel is not suspended\n"),
-        9 => say(b"refused: 9, a suspend, and the channel is not running\n"),
-        11 => say(b"refused: 11, the image is longer than 4096 bytes\n"),
-        _ => {}
+        3 => say(rt, "refused: 3, the bytes are no instruction"),
+        4 => say(
+            rt,
+            "refused: 4, CC is used by another instruction than MOV or MOVI",
+        ),
+        5 => say(
+            rt,
+            "refused: 5, a transfer with SYN 11, or a translation with a 16-bit side",
+        ),
+        6 => say(rt, "refused: 6, the command is 010 or 100"),
+        7 => say(rt, "refused: 7, a resume, and the channel is not suspended"),
+        9 => say(rt, "refused: 9, a suspend, and the channel is not running"),
+        11 => say(rt, "refused: 11, the image is longer than 4096 bytes"),
+        _ => Ok(()),
     }
 }
 
-fn main() {
-    let mut image = [0u8; 4097];
-    let mut text = [0u8; 32768];
-    let length = io::read_full(STDIN_FILENO, &mut image);
-    if os::errno() != 0 {
-        os::fail(b"standard input");
-        return;
-    }
-    let run = trace_text::trace(&mut image[..length], &mut text);
-    let count = run.count;
-    io::write_all(STDOUT_FILENO, &text[..count]);
-    explain(run.number);
+fn main(rt: HostRuntime) -> io::Result<()> {
+    let number = traced(rt.alloc(), rt.stdin(), &mut rt.stdout())?;
+    explain(rt, number)
 }
