@@ -94,7 +94,7 @@ started-of-bytes fresh m channel lines limit all h =
 
 blank-begins : (cp : ℕ) (set : Board) → BytesFit (blank_state cp set)
 unfolding idle_channel channel_of
-blank-begins cp set = (λ b. elim b [ true ↦ lit< tt | false ↦ lit< tt ], (tt, tt))
+blank-begins cp set = (λ b. elim b as (λ v. (channel_of (blank_state cp set) v).psw < 256) [ true ↦ lit< tt | false ↦ lit< tt ], (tt, tt))
 
 fresh-begins : (cp : ℕ) → BytesFit (fresh_of cp).state
 unfolding fresh_of fresh_state
