@@ -9,15 +9,15 @@ use native.Mathlib.Omega.{arith}
 use native.Mathlib.Numerals.{add-one}
 use native.Mathlib.Nat.{mod-eq_of_lt, mod-lt, mod-add-mod, add_assoc, min-eq_left, le_refl}
 use lib.Dec.{eqb, ltb, leb}
-use lib.ListN.{length, get_or, take, drop, set, length-drop, length-take, length-append, drop_of_length-le}
+use lib.ListN.{length, take, drop, set, length-drop, length-take, length-append, drop_of_length-le}
 use lib.Seq.{take_at, drop_at, take-suc-set, drop-drop}
-use borrow.Author.Tests.{eqb-true, eqb-false, eq-eqb, ne_eqb, le-leb, lt-leb, leb-true, ltb-true, ltb-false, lt-ltb, le-ltb}
+use borrow.Author.Tests.{eqb-true, eq-eqb, ne_eqb, le-leb, lt-leb, leb-true, ltb-true, ltb-false, lt-ltb, le-ltb}
 use borrow.Author.Rules.{part_to_end}
 use borrow.Rule.Slice.PartMut.{put_mid, Post-is}
 use Rattle.ground_rules.specs.Choice.{pick}
 use Rattle.assembly_rules.specs.Text.{capital_of, capitals, is_digit, is_capital, is_run, ends_line, Begun, begun, in_front_of, begun_by, tokens_of, all_of, ahead, cut_at, lines_in}
 use Rattle.assembly_rules.specs.Sums.{Label, label, label_worth}
-use Rattle.assembly_rules.specs.Statements.{Headed, headed_by, statement_of, statement_size, statement_number, statement_bytes}
+use Rattle.assembly_rules.specs.Statements.{Headed, statement_of, statement_size, statement_number, statement_bytes}
 use Rattle.assembly_rules.specs.Assembly.{Said, said_by, said_in, is_reserved, may_keep, kept_with, labels_from, label_stands, past_room, line_number, assemble_of, assembled_into}
 use Rattle.assembly_rules.proofs.WholeLaws.{kept-once}
 use Rattle.assembly_rules.proofs.LabelLaws.{labels-reduced, labels-grow}

@@ -14,7 +14,7 @@ use assembler_lines::bodies::{Body, Head};
 use assembler_lines::{lines as saying, sizes};
 
 // The number of the first line that has one, and its line; 0 and 0 where none has.
-#[derive(Drop)]
+#[derive(Clone, Copy)]
 pub(crate) struct Failure {
     pub number: u32,
     pub line: usize,

@@ -6,7 +6,7 @@ use Rattle.listing_rules.specs.Entries.OperandKind.{'R, 'G, 'P, 'M, 'byte, 'word
 use Rattle.assembly_rules.specs.Operands.{Written}
 use Rattle.assembly_rules.specs.Statements.{is_byte, reach_to, is_near}
 use Rattle.assembler_forms.specs.declared.operands.Form.{Form}
-use Rattle.assembler_forms.specs.declared.operands.Form.TheVariants.{Register, Memory, Value, NoOperand}
+use Rattle.assembler_forms.specs.declared.operands.Form.TheVariants.{NoOperand}
 use Rattle.assembler_forms.specs.declared.operands.Operands.{Operands}
 use Rattle.assembler_forms.specs.Forms.{written_form}
 

@@ -1,4 +1,5 @@
 // What a line of an assembly is worth: the number that refuses it, and its bytes.
+#![tactic(auto)]
 
 // Data: DB and DW.
 mod data;

@@ -12,7 +12,7 @@ use assembler_text::{sums, tokens};
 use assembly_rules::Scan;
 
 // A register's number and the place behind it; 9 where none stands there.
-#[derive(Drop)]
+#[derive(Clone, Copy)]
 pub(crate) struct Named {
     pub number: u32,
     pub next: usize,
@@ -20,7 +20,7 @@ pub(crate) struct Named {
 
 // An operand: a register by RRR; memory by MM, AA and the place of its offset; a sum by its place; or none. Memory and sums
 // also tell whether no more than eight parentheses are open at once.
-#[derive(Drop)]
+#[derive(Clone, Copy)]
 pub enum Form {
     Register(u32),
     Memory(u32, u32, usize, bool),
@@ -184,7 +184,7 @@ pub fn operand(text: &[u8], at: usize) -> Form
 }
 
 // Up to three operands, and how many there are; 4 where they are more.
-#[derive(Drop)]
+#[derive(Clone, Copy)]
 pub struct Operands {
     pub count: u32,
     pub first: Form,

@@ -12,7 +12,7 @@ use assembler_text::characters;
 pub const NONE: u32 = 0xF0000000;
 
 // Up to three entries of one word, NONE behind them.
-#[derive(Drop)]
+#[derive(Clone, Copy)]
 pub struct Codes(pub u32, pub u32, pub u32);
 
 // The characters of a run as one number, the first in its lowest eight bits, and 1 above the last; 0 where they are more than

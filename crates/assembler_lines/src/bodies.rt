@@ -2,7 +2,7 @@
 use assembler_forms::operands::Operands;
 
 // The front of a line: whether a label stands there, its first place and the one behind it, and the place where the rest begins.
-#[derive(Drop)]
+#[derive(Clone, Copy)]
 pub struct Head {
     pub labelled: bool,
     pub from: usize,
@@ -12,7 +12,7 @@ pub struct Head {
 
 // What stands behind a label: nothing; data, in words or not, by its first place and its bytes; an instruction by its entry's
 // number and its operands; or the number of a refusal.
-#[derive(Drop)]
+#[derive(Clone, Copy)]
 pub enum Body {
     Blank,
     Items(bool, usize, usize),

@@ -1,4 +1,5 @@
 // What a line of an assembly says: its label, and what stands behind it.
+#![tactic(auto)]
 
 // Lines by the places of their parts.
 pub mod bodies;

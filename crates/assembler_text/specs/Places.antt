@@ -1,7 +1,6 @@
 -- Tokens and labels by their places in a text, as the code has them.
-use Rattle.std.specs.Prelude.{Bool, true, false, ◌&&◌, ◌||◌, List, [], ◌∷◌, ℕ, suc, ◌+◌, ◌-◌, eqb, leb, length, get_or, take, drop}
+use Rattle.std.specs.Prelude.{Bool, true, false, ◌||◌, List, [], ◌∷◌, ℕ, suc, ◌+◌, ◌-◌, eqb, leb, length, get_or, take, drop}
 use Rattle.ground_rules.specs.Choice.{pick}
-use Rattle.assembly_rules.specs.declared.Role.{Role}
 use Rattle.assembly_rules.specs.declared.Role.TheVariants.{Term, Other}
 use Rattle.assembly_rules.specs.Text.{capitals, is_run, is_blank, ends_line, leading_run}
 use Rattle.assembly_rules.specs.Sums.{Label, label, is_term, mark_role}

@@ -1,8 +1,7 @@
 -- What the code read, with the tokens behind the place where it stands.
-use Rattle.std.specs.Prelude.{List, [], ◌∷◌, ℕ, drop}
+use Rattle.std.specs.Prelude.{List, ℕ, drop}
 use Rattle.ground_rules.specs.Choice.{pick}
-use Rattle.assembly_rules.specs.Text.{Token, tokens_of}
-use Rattle.assembly_rules.specs.Text.Token.{run, mark}
+use Rattle.assembly_rules.specs.Text.{tokens_of}
 use Rattle.assembly_rules.specs.Sums.{Read}
 use Rattle.assembly_rules.specs.Sums.Read.{read, deep, wrong}
 use Rattle.assembler_text.specs.declared.values.Parsed.{Parsed}

@@ -1,4 +1,5 @@
 // The text of an assembly: tokens, constants, and sums with what they are worth.
+#![tactic(auto)]
 
 // What characters are.
 pub mod characters;

@@ -62,7 +62,7 @@ fn mark_role(c: u8) -> Role
 }
 
 // What stands at a place in a sum: a comma or the line's end, or a token of it with the place behind.
-#[derive(Drop)]
+#[derive(Clone, Copy)]
 pub(crate) enum Ahead {
     Stop,
     Next(Role, usize),

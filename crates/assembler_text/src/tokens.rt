@@ -6,7 +6,7 @@ use crate::characters;
 
 // What stands at a place of a line: nothing more, a run with its first place and the one behind it, or another character with
 // the place behind it.
-#[derive(Drop)]
+#[derive(Clone, Copy)]
 pub enum TokenFound {
     Nothing,
     Run(usize, usize),

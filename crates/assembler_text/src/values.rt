@@ -10,14 +10,14 @@ use crate::{characters, constants, labels, sums, tokens};
 use assembly_rules::{Constant, Worth};
 
 // What was read: a worth and the place behind it, or nothing: more parentheses than allowed, or no sum.
-#[derive(Drop)]
+#[derive(Clone, Copy)]
 pub(crate) enum Parsed {
     Value(Worth, usize),
     Failed(bool),
 }
 
 // A sign and the place behind it; 0 where none stands next.
-#[derive(Drop)]
+#[derive(Clone, Copy)]
 pub(crate) struct Sign {
     pub sign: u8,
     pub next: usize,

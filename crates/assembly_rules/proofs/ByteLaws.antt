@@ -1,6 +1,6 @@
 -- What a line that no number refuses stores are bytes.
 -- Assumes nothing.
-use mathlib.Core.Path.{◌≡◌, refl, sym, ap, ◌∙◌}
+use mathlib.Core.Path.{◌≡◌, refl, sym, ◌∙◌}
 use mathlib.Core.Bool.{Bool, true, false, not, ◌&&◌, ◌||◌, false≢true}
 use mathlib.Core.List.{List, [], ◌∷◌, ◌++◌}
 use Prim.Native.Nat.{ℕ, suc, ◌+◌, ◌*◌, ◌/◌, ◌%◌, ◌<◌}
@@ -22,7 +22,7 @@ use Rattle.assembly_rules.specs.Operands.{Written, closed_memory, ended_memory, 
 use Rattle.assembly_rules.specs.Operands.Written.{register, memory, value, nothing}
 use Rattle.assembly_rules.specs.Operands.Chosen.{taken, untaken}
 use Rattle.assembly_rules.specs.Statements.{headed_by, Statement, operand_parts, all_sums, all_low, items_from, formed_by, word_statement, statement_of, statement_size, may_stand, operand_worth, names_known, all_stand, statement_number, pair_bytes, listed_as, listed_all, written_offset, all_offsets, number_bytes, all_numbers, second_bytes, move_bytes, instruction_bytes, items_bytes, statement_bytes, memories_in}
-use Rattle.assembly_rules.specs.Statements.Statement.{blank, items, instruction, refused}
+use Rattle.assembly_rules.specs.Statements.Statement.{instruction, refused}
 use Rattle.assembly_rules.specs.Assembly.{Said, said_by, said_in, kept_with, label_stands, line_number}
 use Rattle.assembly_rules.proofs.WritingLaws.{both_left, both_right}
 use Rattle.assembly_rules.proofs.SizeLaws.{pass_each, entry-tested}

@@ -256,6 +256,7 @@ both-take (one_place {k = k} {w = w} h hs) (one_place {k = j} g gs) = rw (eq-eqb
 
 entry-only : (es : List Entry) → sole es ≡ true → (e : Entry) → In e es → (ws : List Written) → AllTake e.kinds ws → entry_in es e.word ws ≡ taken e
 unfolding entry_in sole clash
+entry-only [] h e x ws t = elim x [ ]
 entry-only (f ∷ es) h e (here p) ws t = rw (← p, is_same e.word, take_all t)
 entry-only (f ∷ es) h e (later m) ws t = go (same_text f.word e.word) refl (takes_all f.kinds ws) refl (entry-only es (both_right (every (λ g. not (clash f g)) es) (sole es) h) e m ws t)
   where

@@ -293,6 +293,7 @@ due-mark c Opens (opens e) ts due fs f m b k h =
     let up : length fs + 1 ≡ length (f ∷ fs) = omega arith in
     rw e (found-same _ _ (push-text fs f ts) (due (f ∷ fs) (lead false) (greater m (length fs + 1)) true (λ z. refl) (subst (λ (n : ℕ). is_whole (scan_from (scan true n (greater m (length fs + 1)) true true) ts) ≡ true) up h)))
 due-mark c Closes (closes e) ts due fs f m b k h = no_whole ts (no_sum (scan true (length fs) m true b)) refl h
+due-mark c Term x ts due fs f m b k h = elim x [ ]
 due-mark c Other other ts due fs f m b k h = no_whole ts (no_sum (scan true (length fs) m true b)) refl h
 
 due-run : (r : List ℕ) (ts : List Token) → DoneTree ts → (fs : List Frame) (f : Frame) (m : ℕ) (b : Bool) → is_whole (scan_from (scan true (length fs) m true b) (run r ∷ ts)) ≡ true → Found (frames_tokens fs ++ (frame_tokens f ++ (run r ∷ ts)))
@@ -320,6 +321,7 @@ done-mark c Closes (closes e) ts due done (f ∷ fs) s m h =
     let d : length (f ∷ fs) - 1 ≡ length fs = omega arith in
     let k : is_whole (scan_from (scan true (length fs) m false false) ts) ≡ true = rw (n, d) at h in
     rw e (found-same _ _ (pop-text fs f s ts) (done fs (filled_frame f (inside s)) m k))
+done-mark c Term x ts due done fs s m h = elim x [ ]
 done-mark c Other other ts due done fs s m h = no_whole ts (no_sum (scan true (length fs) m false false)) refl h
 
 done-run : (r : List ℕ) (ts : List Token) (fs : List Frame) (s : Sum) (m : ℕ) → is_whole (scan_from (scan true (length fs) m false false) (run r ∷ ts)) ≡ true → Found (frames_tokens fs ++ (sum_tokens s ++ (run r ∷ ts)))

@@ -38,7 +38,7 @@ every-fails {A} test l = (finds l, λ x. one x.0 x.1.0 x.1.1)
     finds [] h = not-both refl h
     finds (a ∷ l) h = elim ((both_false (test a) (every test l)).0 h) [ inl e ↦ (a, (here refl, e)) | inr k ↦ let x = finds l k in (x.0, (later x.1.0, x.1.1)) ]
 
-    one : {l : List A} (a : A) → In a l → test a ≡ false → every test l ≡ false
+    one : (a : A) {l : List A} → In a l → test a ≡ false → every test l ≡ false
     one a (here {x = x} {xs = xs} e) h = (both_false (test x) (every test xs)).1 (inl (ap test (sym e) ∙ h))
     one a (later {x = x} {xs = xs} m) h = (both_false (test x) (every test xs)).1 (inr (one a m h))
 
@@ -58,6 +58,6 @@ as_some {A} test f h k l = (finds l, λ x. one x.0 x.1.0 x.1.1)
     finds [] e = not-both e h
     finds (a ∷ l) e = elim ((either_true (test a) (f l)).0 (sym (k a l) ∙ e)) [ inl t ↦ (a, (here refl, t)) | inr g ↦ let x = finds l g in (x.0, (later x.1.0, x.1.1)) ]
 
-    one : {l : List A} (a : A) → In a l → test a ≡ true → f l ≡ true
+    one : (a : A) {l : List A} → In a l → test a ≡ true → f l ≡ true
     one a (here {x = x} {xs = xs} e) t = k x xs ∙ (either_true (test x) (f xs)).1 (inl (ap test (sym e) ∙ t))
     one a (later {x = x} {xs = xs} m) t = k x xs ∙ (either_true (test x) (f xs)).1 (inr (one a m t))

@@ -9,7 +9,7 @@ use lib.Dec.{eqb, leb}
 use borrow.Author.Tests.{eqb-true, leb-true, le-leb, lt-leb}
 use Rattle.ground_rules.specs.Choice.{pick}
 use Rattle.assembly_rules.specs.Text.{capital_of, capitals, is_digit, is_capital, is_run, is_blank, ends_line, Begun, begun, all_of, in_front_of, begun_by, tokens_of, leading_run, Token, is_comma, before_comma, from_comma}
-use Rattle.assembly_rules.specs.Text.Token.{run, mark}
+use Rattle.assembly_rules.specs.Text.Token.{mark}
 
 -- a blank belongs to no run and ends no line
 pub blank-plain : (c : ℕ) → is_blank c ≡ true → (is_run c ≡ false) × (ends_line c ≡ false)

@@ -1,7 +1,7 @@
 -- Operands as they are written: registers, memory and sums; which of them a place takes, and the entry of a word with its operands (§14.3).
-use Rattle.std.specs.Prelude.{Bool, true, false, not, ◌&&◌, ◌||◌, List, [], ◌∷◌, ℕ, eqb, ltb, leb, take, drop}
+use Rattle.std.specs.Prelude.{Bool, true, false, not, ◌&&◌, ◌||◌, List, [], ◌∷◌, ℕ, eqb, ltb, leb}
 use Rattle.ground_rules.specs.Choice.{pick}
-use Rattle.listing_rules.specs.Characters.{ascii, same_text}
+use Rattle.listing_rules.specs.Characters.{same_text}
 use Rattle.listing_rules.specs.Entries.{OperandKind, Entry}
 use Rattle.listing_rules.specs.Entries.OperandKind.{'R, 'G, 'P, 'M, 'byte, 'word, 'bit, 'width, 'short, 'long}
 use Rattle.assembly_rules.specs.Text.{Token}

@@ -8,7 +8,7 @@ use attention_rules::{Command, Order};
 
 // Where PB lies: a start reads it in the block, any other command takes it at PP.
 fn parameter_block(sys: &[u8], io: &[u8], command: Command, block: u32, pp: u32) -> u32
-    ensures { result ≡ parameter_block command (lent sys.entry io.entry) block pp }
+    ensures { result ≡ parameter_block command (lent sys.now io.now) block pp }
 {
     match command {
         Command::Update => pp,
@@ -23,7 +23,7 @@ fn parameter_block(sys: &[u8], io: &[u8], command: Command, block: u32, pp: u32)
 
 // The order that a block holds for a channel with that PP.
 pub fn order(sys: &[u8], io: &[u8], block: u32, pp: u32) -> Order
-    ensures { result ≡ order_of (lent sys.entry io.entry) block pp }
+    ensures { result ≡ order_of (lent sys.now io.now) block pp }
 {
     let ccw = memory::byte(sys, io, false, block);
     let command = commands::command(ccw);

@@ -53,7 +53,7 @@ fn resumed(c: Channel, tp: Pointer, saved: u8) -> Channel
 
 // The channel after a command.
 fn commanded(sys: &[u8], io: &[u8], command: Command, pb: u32, c: Channel) -> Channel
-    ensures { result ≡ Effects.commanded command (lent sys.entry io.entry) pb c }
+    ensures { result ≡ Effects.commanded command (lent sys.now io.now) pb c }
 {
     match command {
         Command::Update => c,
@@ -84,7 +84,7 @@ fn commanded(sys: &[u8], io: &[u8], command: Command, pb: u32, c: Channel) -> Ch
 
 // The channel after an accepted order.
 pub fn channel_ordered(sys: &[u8], io: &[u8], o: Order, c: Channel) -> Channel
-    ensures { result ≡ channel_ordered (lent sys.entry io.entry) o c }
+    ensures { result ≡ channel_ordered (lent sys.now io.now) o c }
 {
     let command = o.command;
     let mut next = commanded(sys, io, command, o.pb, c);
@@ -126,7 +126,7 @@ pub fn writes_of(o: Order, c: Channel) -> Writes
 
 // TP and PSW saved in PB's first four bytes, or nothing.
 fn save_if(sys: &mut [u8], io: &mut [u8], on: bool, pb: u32, tp: Pointer, psw: u8)
-    ensures { lent sys.exit io.exit ≡ pick on (saved (lent sys.entry io.entry) pb tp psw) (lent sys.entry io.entry) }
+    ensures { lent sys.new io.new ≡ pick on (saved (lent sys.old io.old) pb tp psw) (lent sys.old io.old) }
 {
     if on {
         memory::store_pointer(sys, io, false, pb, tp);
@@ -136,7 +136,7 @@ fn save_if(sys: &mut [u8], io: &mut [u8], on: bool, pb: u32, tp: Pointer, psw: u
 
 // BUSY stored, or nothing.
 fn mark_if(sys: &mut [u8], io: &mut [u8], on: bool, block: u32, busy: u8)
-    ensures { lent sys.exit io.exit ≡ pick on (marked (lent sys.entry io.entry) block busy) (lent sys.entry io.entry) }
+    ensures { lent sys.new io.new ≡ pick on (marked (lent sys.old io.old) block busy) (lent sys.old io.old) }
 {
     if on {
         memory::store_byte(sys, io, false, machine::states::busy(block), busy);
@@ -145,7 +145,7 @@ fn mark_if(sys: &mut [u8], io: &mut [u8], on: bool, block: u32, busy: u8)
 
 // All stores of an attention.
 pub fn write(sys: &mut [u8], io: &mut [u8], w: Writes)
-    ensures { lent sys.exit io.exit ≡ writes_made (lent sys.entry io.entry) w }
+    ensures { lent sys.new io.new ≡ writes_made (lent sys.old io.old) w }
 {
     let tp = w.tp;
     save_if(sys, io, w.saves, w.pb, tp, w.psw);

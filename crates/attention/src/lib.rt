@@ -1,4 +1,6 @@
 // The attention call: the order that a channel's block holds is read, tested, and carried out whole or not at all.
+#![tactic(auto)]
+
 ghost use Rattle.std.specs.Prelude.{◌≡◌};
 ghost use Rattle.ground_rules.specs.Buffers.{lent};
 ghost use Rattle.ground_rules.specs.Outcomes.{outcome};
@@ -19,7 +21,7 @@ pub mod touched;
 pub mod effects;
 
 // What an order stores: TP and PSW at PB or not, then BUSY or not.
-#[derive(Drop)]
+#[derive(Clone, Copy)]
 pub struct Writes {
     pub saves: bool,
     pub pb: u32,
@@ -31,7 +33,7 @@ pub struct Writes {
 }
 
 // What an order comes to: its number, how many bytes it reads and stores, the channel after it, and what it stores.
-#[derive(Drop)]
+#[derive(Clone, Copy)]
 pub struct Upshot {
     pub number: u32,
     pub count: u32,
@@ -41,7 +43,7 @@ pub struct Upshot {
 
 // The refusal of what an attention is given: 12, 11, 10, 13, then 14, else 0.
 pub fn given_number(s: State, sys: &[u8], io: &[u8], channel: u32) -> u32
-    ensures { result ≡ given_to s (lent sys.entry io.entry) channel }
+    ensures { result ≡ given_to s (lent sys.now io.now) channel }
 {
     if !states::is_channel(channel) {
         return 12;
@@ -51,7 +53,7 @@ pub fn given_number(s: State, sys: &[u8], io: &[u8], channel: u32) -> u32
 
 // The number of an order to a channel in some mode.
 fn number(sys: &[u8], io: &[u8], o: Order, mode: Mode) -> u32
-    ensures { result ≡ order_number (lent sys.entry io.entry) o mode }
+    ensures { result ≡ order_number (lent sys.now io.now) o mode }
 {
     if !memory::span_touchable(sys, io, false, o.block, 1) {
         return 2;
@@ -66,7 +68,7 @@ fn number(sys: &[u8], io: &[u8], o: Order, mode: Mode) -> u32
 
 // What the order in a block comes to for its channel.
 pub fn planned(sys: &[u8], io: &[u8], block: u32, c: Channel) -> Upshot
-    ensures { result ≡ planned_of (lent sys.entry io.entry) block c }
+    ensures { result ≡ planned_of (lent sys.now io.now) block c }
 {
     let o = blocks::order(sys, io, block, c.pp);
     let mode = c.mode;
@@ -93,8 +95,8 @@ pub fn planned(sys: &[u8], io: &[u8], block: u32, c: Channel) -> Upshot
 
 // Gives a channel attention. What was given is refused before any byte is looked at.
 pub fn attention(s: State, sys: &mut [u8], io: &mut [u8], channel: u32) -> Answer
-    ensures left { outcome result.number result.state (lent sys.exit io.exit) ≡ attention_of s (lent sys.entry io.entry) channel }
-    ensures count { result.count ≡ attention_count s (lent sys.entry io.entry) channel }
+    ensures left { outcome result.number result.state (lent sys.new io.new) ≡ attention_of s (lent sys.old io.old) channel }
+    ensures count { result.count ≡ attention_count s (lent sys.old io.old) channel }
 {
     let given = given_number(s, sys, io, channel);
     if given != 0 {

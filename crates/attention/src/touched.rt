@@ -10,21 +10,21 @@ use attention_rules::{Command, Order};
 
 // Whether BUSY may be touched.
 fn busy(sys: &[u8], io: &[u8], block: u32) -> bool
-    ensures { result ≡ all_touchable (lent sys.entry io.entry) (span false (busy_in block) 1) }
+    ensures { result ≡ all_touchable (lent sys.now io.now) (span false (busy_in block) 1) }
 {
     memory::span_touchable(sys, io, false, machine::states::busy(block), 1)
 }
 
 // Whether PB's first `count` bytes and BUSY may be touched.
 fn stored(sys: &[u8], io: &[u8], block: u32, pb: u32, count: u32) -> bool
-    ensures { result ≡ all_touchable (lent sys.entry io.entry) (span false pb count ++ span false (busy_in block) 1) }
+    ensures { result ≡ all_touchable (lent sys.now io.now) (span false pb count ++ span false (busy_in block) 1) }
 {
     memory::span_touchable(sys, io, false, pb, count) & busy(sys, io, block)
 }
 
 // Whether a start's bytes may be touched: the block's pointer, `count` bytes of PB, and BUSY.
 fn started(sys: &[u8], io: &[u8], block: u32, pb: u32, count: u32) -> bool
-    ensures { result ≡ all_touchable (lent sys.entry io.entry) ((span false (pointer_of block) 4 ++ span false pb count) ++ span false (busy_in block) 1) }
+    ensures { result ≡ all_touchable (lent sys.now io.now) ((span false (pointer_of block) 4 ++ span false pb count) ++ span false (busy_in block) 1) }
 {
     memory::span_touchable(sys, io, false, words::sum20(block, 2), 4)
         & stored(sys, io, block, pb, count)
@@ -32,7 +32,7 @@ fn started(sys: &[u8], io: &[u8], block: u32, pb: u32, count: u32) -> bool
 
 // Whether all bytes of an order after its CCW may be touched.
 pub fn others(sys: &[u8], io: &[u8], o: Order) -> bool
-    ensures { result ≡ all_touchable (lent sys.entry io.entry) (Touched.others o) }
+    ensures { result ≡ all_touchable (lent sys.now io.now) (Touched.others o) }
 {
     let command = o.command;
     match command {

@@ -6,7 +6,6 @@ use mathlib.Core.Bool.{true, false}
 use mathlib.Core.List.{List, [], ◌∷◌}
 use mathlib.Core.Path.{◌≡◌, refl}
 use native.Mathlib.Omega.{arith}
-use Rattle.ground_rules.proofs.OutcomeLaws.{accepted}
 use Rattle.ground_rules.specs.Cc.{split, same_flag, same_fields}
 use Rattle.ground_rules.specs.Outcomes.{outcome, unless, first, settled, given_number}
 use Rattle.ground_rules.specs.Stages.{stages_number}

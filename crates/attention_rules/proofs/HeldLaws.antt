@@ -4,13 +4,13 @@ use Prim.Native.Nat.{ℕ, zero, suc, ◌/◌, ◌%◌, ◌^◌, ◌<◌}
 use lib.Dec.{lit<}
 use lib.ListN.{get_or}
 use mathlib.Core.Bool.{true, false}
-use mathlib.Core.List.{List, [], ◌∷◌}
+use mathlib.Core.List.{[], ◌∷◌}
 use mathlib.Core.Path.{◌≡◌, refl, ap, ◌∙◌}
 use native.Mathlib.Nat.{mod-lt, div-one}
 use native.Mathlib.Omega.{arith}
 use Rattle.ground_rules.proofs.ChannelLaws.{put_same}
 use Rattle.ground_rules.specs.Bits.{field_of, bit_of, with_bit}
-use Rattle.ground_rules.specs.Buffers.{Buffers, buffers, space_of, limit_of, index_of, lent_at, touchable_at, beyond_in, byte_at, store_byte, within_limits}
+use Rattle.ground_rules.specs.Buffers.{Buffers, space_of, limit_of, index_of, lent_at, touchable_at, beyond_in, byte_at, store_byte, within_limits}
 use Rattle.ground_rules.specs.Cc.{split, same_flag, same_fields}
 use Rattle.ground_rules.specs.Outcomes.{Outcome, unless, first, settled, given_number}
 use Rattle.ground_rules.specs.Places.{span, all_pass}
@@ -29,7 +29,7 @@ use Rattle.attention_rules.specs.Blocks.{ccw_of, parameter_block, order_of}
 use Rattle.attention_rules.specs.Commands.{command_coded, is_known, mode_number, command_number, copied, obeyed, ordered}
 use Rattle.attention_rules.specs.Effects.{started, suspended, resumed, commanded, channel_ordered, saved, marked, stored_memory}
 use Rattle.attention_rules.specs.Touched.{read_by, stored_by, others, order_stages}
-use Rattle.attention_rules.proofs.Cases.{running, to_suspend, to_resume}
+use Rattle.attention_rules.proofs.Cases.{to_suspend, to_resume}
 use Rattle.attention_rules.proofs.Outcomes.{accepted-order}
 
 -- what is held after a command, by bits 2-0 of CCW: both starts and halt drop it, 000, resume and suspend keep it; 010 and 100 are accepted by none

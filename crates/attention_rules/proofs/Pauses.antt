@@ -1,17 +1,16 @@
 -- Suspend and resume: what is saved comes back.
 -- Assumes nothing.
 use Prim.Native.Nat.{ℕ, ◌+◌, ◌%◌, ◌<◌}
-use lib.Dec.{ltb, eqb, lit<}
-use mathlib.Core.Bool.{Bool, true, false, ◌&&◌}
+use lib.Dec.{eqb, lit<}
+use mathlib.Core.Bool.{Bool, true, false}
 use mathlib.Core.List.{◌++◌}
 use mathlib.Core.Path.{◌≡◌, refl, sym, ap, ◌∙◌}
 use native.Mathlib.Nat.{mod-eq_of_lt, add-zero}
 use native.Mathlib.Omega.{arith}
 use Rattle.ground_rules.proofs.ChannelLaws.{put_same, sound-channel-of, sound-tp}
-use Rattle.ground_rules.proofs.OutcomeLaws.{accepted, settled-number}
-use Rattle.ground_rules.specs.Outcomes.{Outcome, given_number}
+use Rattle.ground_rules.specs.Outcomes.{Outcome}
 use Rattle.ground_rules.specs.Psw.{with_psw}
-use Rattle.ground_rules.specs.States.{channel_of, with_channel, sound_channel, sound, is_second, block_of, busy_in}
+use Rattle.ground_rules.specs.States.{channel_of, sound_channel, is_second, block_of, busy_in}
 use Rattle.ground_rules.specs.declared.Channel.{Channel}
 use Rattle.ground_rules.specs.declared.Mode.{Mode}
 use Rattle.ground_rules.specs.declared.Mode.TheVariants.{Running, Suspended}
@@ -23,11 +22,11 @@ use Rattle.ground_rules.specs.Buffers.{Buffers, lent_at, touchable_at, byte_at, 
 use Rattle.ground_rules.specs.Places.{span, all_lent, all_touchable}
 use Rattle.ground_rules.specs.Values.{pointer, pointer_at, store_pointer}
 use Rattle.ground_rules.proofs.BitLaws.{bit-other}
-use Rattle.ground_rules.proofs.ChoiceLaws.{both_left, both_right}
+use Rattle.ground_rules.proofs.ChoiceLaws.{both_left}
 use Rattle.ground_rules.specs.Bits.{field_of, bit_of, with_bit}
 use Rattle.ground_rules.specs.Choice.{pick}
-use Rattle.ground_rules.proofs.ConditionLaws.{first-none-left, first-none-right, unless-none, running-is}
-use Rattle.attention_rules.specs.Attention.{order_to, order_number, channel_attended, ordered_memory, given_to, attention_number, attention_of}
+use Rattle.ground_rules.proofs.ConditionLaws.{first-none-right, unless-none, running-is}
+use Rattle.attention_rules.specs.Attention.{order_to, channel_attended, ordered_memory, attention_of}
 use Rattle.attention_rules.specs.Blocks.{parameter_block, order_of}
 use Rattle.attention_rules.specs.Commands.{is_known, mode_number, command_number, copied, obeyed, ordered}
 use Rattle.attention_rules.specs.Effects.{only_psw, suspended, resumed, commanded, channel_ordered, saved, marked, stored_memory}

@@ -1,6 +1,6 @@
 -- An accepted attention leaves a sound state (§2.9), and every attention one that agrees (§2.12) where it was given one.
 -- Assumes nothing.
-use Prim.Native.Nat.{ℕ, ◌+◌, ◌*◌, ◌/◌, ◌<◌}
+use Prim.Native.Nat.{ℕ, ◌+◌, ◌<◌}
 use mathlib.Core.Bool.{Bool, true, false}
 use mathlib.Core.Path.{◌≡◌, refl, ap, ◌∙◌}
 use native.Mathlib.Omega.{arith}
@@ -12,7 +12,7 @@ use Rattle.ground_rules.specs.States.{channel_of, with_channel, sound_channel, s
 use Rattle.ground_rules.specs.Updates.{with_control, halted}
 use Rattle.ground_rules.specs.declared.Channel.{Channel}
 use Rattle.ground_rules.specs.declared.State.{State}
-use Rattle.ground_rules.specs.Buffers.{Buffers, AllBytes, byte_at}
+use Rattle.ground_rules.specs.Buffers.{Buffers, AllBytes}
 use Rattle.ground_rules.specs.Values.{word_at, doubleword_at, pointer, pointer_at}
 use Rattle.attention_rules.specs.Attention.{order_to, channel_attended, ordered_memory, attention_number, attention_of}
 use Rattle.attention_rules.specs.Blocks.{pointer_of, parameter_block, order_of}

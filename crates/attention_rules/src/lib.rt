@@ -1,7 +1,8 @@
 // Types of the rules of attention.
+#![tactic(auto)]
 
 // What a CCW commands.
-#[derive(Drop)]
+#[derive(Clone, Copy)]
 pub enum Command {
     Update,
     StartLocal,
@@ -13,7 +14,7 @@ pub enum Command {
 }
 
 // What a block orders: the command, its CCW, the block itself and where PB lies.
-#[derive(Drop)]
+#[derive(Clone, Copy)]
 pub struct Order {
     pub command: Command,
     pub ccw: u8,

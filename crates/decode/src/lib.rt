@@ -1,5 +1,7 @@
 // The two bytes of an instruction's pair, read into one of the instruction's shapes or refused, and how many bytes the
 // instruction has.
+#![tactic(auto)]
+
 use instruction_rules::Looked;
 
 mod cells;

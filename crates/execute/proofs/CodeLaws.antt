@@ -1,10 +1,7 @@
 -- The laws of an instruction that is worked out before its stores: its number so far, and what comes of it.
 -- Assumes nothing.
-use Rattle.std.proofs.Common.{◌≡◌, ℕ, zero, suc, ◌+◌, ◌-◌, ◌%◌, ◌≤◌, Bool, true, false, ◌&&◌, eqb, [], ◌∷◌, length, sym, refl, ap, ◌∙◌, subst, ap₂, ⊎_elim, arith}
+use Rattle.std.proofs.Common.{◌≡◌, ℕ, zero, suc, ◌+◌, ◌-◌, ◌%◌, ◌≤◌, Bool, true, false, ◌&&◌, eqb, length, sym, refl, ap, ◌∙◌, subst, ap₂, arith}
 use borrow.Author.Tests.{eqb-false}
-use denote.Enum.Declared.{tag_of as variant}
-use types.Run.{OneOf}
-use Rattle.instruction_rules.specs.contracts.Decoded.{the_type}
 use Rattle.instruction_rules.proofs.LengthLaws.{bounded}
 use Rattle.instruction_rules.specs.Lengths.{length_of}
 use Rattle.instruction_rules.specs.Reading.{number_of}
@@ -30,7 +27,7 @@ use Rattle.instruction_rules.specs.Operands.{bytes_at}
 use Rattle.instruction_rules.specs.Deeds.{Deed}
 use Rattle.instruction_rules.specs.Execute.{decoded_at, deed_of, later_bytes, later_from, length_from, deed_from, stages_from, instruction_stages, execute_number, touched_by_instruction, Executed, executed, execute_of, execute_count}
 use Rattle.instruction_rules.specs.Kept.{deed_at}
-use Rattle.instruction_rules.proofs.CountLaws.{deed-most, touched-length, reads-most}
+use Rattle.instruction_rules.proofs.CountLaws.{deed-most, touched-length}
 use Rattle.instruction_rules.proofs.OutcomeLaws.{refused-by, done-by, number_is}
 use Rattle.execute.specs.Effects.{refusal, channel_worked, change_in, deed_number, Carries, IsDeed, Planned}
 use Rattle.execute.specs.Plan.{later_number, plan_from, plan_number}
@@ -144,13 +141,13 @@ module _ (m : Buffers) (c : Channel) (busy : ℕ) where
   own-touched s h = both-passed (deed_number m (deed_of s m c busy)) (all_touchable m (bytes_at c.tp 2)) (all_touchable m (later_bytes s c)) (sym (own-bytes s) ∙ h)
 
   -- what is no instruction is refused by 2 or by its own number
-  none_from : (d : Decoded) → OneOf (1 ∷ 2 ∷ []) (variant the_type d) → let n = first (unless (all_touchable m (bytes_at c.tp 2)) 2) (number_of d) in (n ≡ plan_from d m c busy) × (n ≡ 0 → ⊥)
+  none_from : (d : Decoded) → ((s : Shape) → d ≡ Instruction s → ⊥) → let n = first (unless (all_touchable m (bytes_at c.tp 2)) 2) (number_of d) in (n ≡ plan_from d m c busy) × (n ≡ 0 → ⊥)
   unfolding plan_from
-  none_from (Instruction s) h = absurd (⊎_elim (λ e. eqb-false 0 1 refl e) (λ e. eqb-false 0 2 refl e) h)
+  none_from (Instruction s) h = absurd (h s refl)
   none_from NoInstruction h = hidden (later_number NoInstruction m c busy) 3 (all_touchable m (bytes_at c.tp 2)) refl
   none_from ControlUsed h = hidden (later_number ControlUsed m c busy) 4 (all_touchable m (bytes_at c.tp 2)) refl
 
-  pub plan-none : (d : Decoded) → OneOf (1 ∷ 2 ∷ []) (variant the_type d) → decoded_at m c.tp ≡ d → let n = first (unless (all_touchable m (bytes_at c.tp 2)) 2) (number_of d) in (n ≡ plan_number m c busy) × (n ≡ 0 → ⊥)
+  pub plan-none : (d : Decoded) → ((s : Shape) → d ≡ Instruction s → ⊥) → decoded_at m c.tp ≡ d → let n = first (unless (all_touchable m (bytes_at c.tp 2)) 2) (number_of d) in (n ≡ plan_number m c busy) × (n ≡ 0 → ⊥)
   unfolding plan_number
   plan-none d h e = rw e (none_from d h)
 

@@ -1,6 +1,6 @@
 -- The laws of bytes as one number: the digits of four and of eight bytes at a place are those bytes, what instructions take from them is what the rules read there, and bytes in one piece are those of the buffer.
 -- Assumes nothing.
-use Rattle.std.proofs.Common.{◌≡◌, ℕ, ◌+◌, ◌-◌, ◌*◌, ◌/◌, ◌%◌, ◌<◌, Bool, eqb, sym, ap, ◌∙◌, add_assoc, arith, eq-eqb, ne_eqb}
+use Rattle.std.proofs.Common.{◌≡◌, ℕ, ◌+◌, ◌*◌, ◌/◌, ◌%◌, ◌<◌, Bool, eqb, sym, ap, ◌∙◌, add_assoc, arith, eq-eqb, ne_eqb}
 use Rattle.ground_rules.specs.Buffers.{Buffers, byte_at, AllBytes}
 use Rattle.ground_rules.specs.Choice.{pick}
 use Rattle.ground_rules.specs.Stored.{stored_address, stored_tag}

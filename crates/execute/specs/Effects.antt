@@ -1,5 +1,5 @@
 -- What the code works out of an instruction, in numbers, and when that is what its deed says.
-use Rattle.std.specs.Prelude.{◌≡◌, ℕ, ◌+◌, Bool, true, false, length}
+use Rattle.std.specs.Prelude.{◌≡◌, ℕ, ◌+◌, Bool, false, length}
 use Rattle.ground_rules.specs.Buffers.{Buffers, AllBytes}
 use Rattle.ground_rules.specs.Choice.{pick}
 use Rattle.ground_rules.specs.Outcomes.{first, unless}

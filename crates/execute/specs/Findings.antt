@@ -1,6 +1,6 @@
 -- What an instruction finds: what its shape names, where its operand lies, and what stands there, behind its pair and in its register.
 use Rattle.std.specs.Prelude.{ℕ, ◌+◌, Bool, true, false, ◌==◌}
-use Rattle.ground_rules.specs.Buffers.{Buffers, byte_at}
+use Rattle.ground_rules.specs.Buffers.{Buffers}
 use Rattle.ground_rules.specs.Choice.{pick}
 use Rattle.ground_rules.specs.Registers.{register_of, tag_of, base_of}
 use Rattle.ground_rules.specs.Sums.{sum20}

@@ -19,7 +19,7 @@ pub fn stored_value(address: u32, tag: bool) -> u32
 // The lowest `count` bytes of a value, one at least and at most three, stored at a place.
 fn store(count: u32, tag: bool, address: u32, v: u32, sys: &mut [u8], io: &mut [u8])
     requires { count ≢ 0 }
-    ensures { lent sys.exit io.exit ≡ changed (lent sys.entry io.entry) (change count (pointer address tag) v) }
+    ensures { lent sys.new io.new ≡ changed (lent sys.old io.old) (change count (pointer address tag) v) }
 {
     memory::store_byte(sys, io, tag, address, (v % 256) as u8);
     if count == 1 {
@@ -47,8 +47,8 @@ fn store(count: u32, tag: bool, address: u32, v: u32, sys: &mut [u8], io: &mut [
 // The lowest `count` bytes of a value, at most three, stored at a place where each may be touched, else nothing; and whether
 // they may. Most instructions store nothing, so that is asked first.
 pub fn made(count: u32, tag: bool, address: u32, v: u32, sys: &mut [u8], io: &mut [u8]) -> bool
-    ensures told { result ≡ all_touchable (lent sys.entry io.entry) (places_of (change count (pointer address tag) v)) }
-    ensures stored { lent sys.exit io.exit ≡ pick result (changed (lent sys.entry io.entry) (change count (pointer address tag) v)) (lent sys.entry io.entry) }
+    ensures told { result ≡ all_touchable (lent sys.old io.old) (places_of (change count (pointer address tag) v)) }
+    ensures stored { lent sys.new io.new ≡ pick result (changed (lent sys.old io.old) (change count (pointer address tag) v)) (lent sys.old io.old) }
 {
     if count == 0 {
         return true;

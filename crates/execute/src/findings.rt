@@ -128,7 +128,7 @@ fn place(c: Channel, n: Naming, bytes: u64) -> Pointer
 
 // The four bytes of an operand, 0 where there is none.
 fn operand(any: bool, tag: bool, address: u32, sys: &[u8], io: &[u8]) -> u32
-    ensures { result ≡ pick any (four_at (lent sys.entry io.entry) tag address) 0 }
+    ensures { result ≡ pick any (four_at (lent sys.now io.now) tag address) 0 }
 {
     if any {
         windows::four(tag, address, sys, io)
@@ -139,9 +139,9 @@ fn operand(any: bool, tag: bool, address: u32, sys: &[u8], io: &[u8]) -> u32
 
 // What an instruction of `count` bytes finds, `bytes` being the eight that it begins.
 pub fn found(shape: Shape, count: u32, c: Channel, bytes: u64, sys: &[u8], io: &[u8]) -> Finding
-    requires all_bytes { AllBytes (lent sys io) }
-    requires bytes_value { bytes ≡ eight_at (lent sys io) c.tp.tag c.tp.address }
-    ensures { result ≡ finding_of (lent sys.entry io.entry) c shape count }
+    requires all_bytes { AllBytes (lent sys.now io.now) }
+    requires bytes_value { bytes ≡ eight_at (lent sys.now io.now) c.tp.tag c.tp.address }
+    ensures { result ≡ finding_of (lent sys.now io.now) c shape count }
 {
     let n = named(shape);
     let tp = words::sum20(c.tp.address, count);

@@ -1,5 +1,7 @@
 // One instruction of a channel: fetched, decoded, worked out in numbers, and its one store and its one register write made
 // last.
+#![tactic(auto)]
+
 ghost use Rattle.std.specs.Prelude.{◌≡◌, true};
 ghost use Rattle.ground_rules.specs.Buffers.{lent, AllBytes};
 ghost use Rattle.ground_rules.specs.Choice.{pick};
@@ -37,7 +39,7 @@ mod memories;
 mod jumps;
 
 // The register that an instruction writes by RRR: whether there is one, which, its value, and the tag where it is a pointer.
-#[derive(Drop)]
+#[derive(Clone, Copy)]
 pub struct Write {
     pub any: bool,
     pub rrr: u32,
@@ -54,14 +56,14 @@ pub const NO_WRITE: Write = Write {
 };
 
 // Eight bytes as one number, the lowest first, and whether all of them are lent.
-#[derive(Drop)]
+#[derive(Clone, Copy)]
 pub struct Window {
     pub bytes: u64,
     pub near: bool,
 }
 
 // What a shape names: whether it has a memory operand, MM and AA of that, and the register that it reads.
-#[derive(Drop)]
+#[derive(Clone, Copy)]
 pub struct Naming {
     pub memory: bool,
     pub mm: u32,
@@ -71,7 +73,7 @@ pub struct Naming {
 
 // What an instruction finds: TP past it and TP's tag, IX, MC, PSW with the mark used up, whether there was one; its operand's
 // address and tag, the four bytes there and the four behind its pair and offset byte; its register and that one's tag.
-#[derive(Drop)]
+#[derive(Clone, Copy)]
 pub struct Finding {
     pub tp: u32,
     pub code: bool,
@@ -90,7 +92,7 @@ pub struct Finding {
 // What an instruction would do, in numbers: a number other than 0 where it is refused; how many bytes it reads of its
 // operand, and how many besides; TP, IX, PSW, whether it halts and the mark after it; the register that it writes; and
 // how many bytes it stores, where, and of which value.
-#[derive(Drop)]
+#[derive(Clone, Copy)]
 pub struct Effect {
     pub number: u32,
     pub more: u32,
@@ -109,7 +111,7 @@ pub struct Effect {
 
 // What an instruction of some shape does with what it finds.
 fn perform(shape: Shape, f: Finding, c: Channel, busy: u32, sys: &[u8], io: &[u8]) -> Effect
-    ensures { Works shape busy f (lent sys.entry io.entry) c result }
+    ensures { Works shape busy f (lent sys.now io.now) c result }
 {
     match shape {
         Shape::Nop => control::nop(f),
@@ -166,8 +168,8 @@ fn refused(number: u32) -> Effect
 
 // Whether `count` bytes at a place may be touched, of which eight are known to be lent where they are near.
 fn own_touchable(near: bool, tag: bool, address: u32, count: u32, sys: &[u8], io: &[u8]) -> bool
-    requires { near ≡ true → all_touchable (lent sys io) (span tag address count) ≡ true }
-    ensures { result ≡ all_touchable (lent sys.entry io.entry) (span tag address count) }
+    requires { near ≡ true → all_touchable (lent sys.now io.now) (span tag address count) ≡ true }
+    ensures { result ≡ all_touchable (lent sys.now io.now) (span tag address count) }
 {
     if near {
         return true;
@@ -177,7 +179,7 @@ fn own_touchable(near: bool, tag: bool, address: u32, count: u32, sys: &[u8], io
 
 // The number of what was worked out, then 2 where the operand's bytes that it reads may not be touched.
 fn read_number(number: u32, f: Finding, reads: u32, sys: &[u8], io: &[u8]) -> u32
-    ensures { result ≡ first number (unless (all_touchable (lent sys.entry io.entry) (span f.space f.at reads)) 2) }
+    ensures { result ≡ first number (unless (all_touchable (lent sys.now io.now) (span f.space f.at reads)) 2) }
 {
     if number != 0 {
         return number;
@@ -197,10 +199,10 @@ fn shaped(
     io: &[u8],
 ) -> Effect
     requires count_value { count ≡ length_of shape }
-    requires all_bytes { AllBytes (lent sys io) }
-    requires bytes_value { w.bytes ≡ eight_at (lent sys io) c.tp.tag c.tp.address }
-    requires count_value_2 { w.near ≡ true → all_touchable (lent sys io) (span c.tp.tag c.tp.address count) ≡ true }
-    ensures { Planned c (first (unless (all_touchable (lent sys.entry io.entry) (bytes_at c.tp 2)) 2) (later_number (Instruction shape) (lent sys.entry io.entry) c busy)) (length_of shape) (deed_of shape (lent sys.entry io.entry) c busy) result }
+    requires all_bytes { AllBytes (lent sys.now io.now) }
+    requires bytes_value { w.bytes ≡ eight_at (lent sys.now io.now) c.tp.tag c.tp.address }
+    requires count_value_2 { w.near ≡ true → all_touchable (lent sys.now io.now) (span c.tp.tag c.tp.address count) ≡ true }
+    ensures { Planned c (first (unless (all_touchable (lent sys.now io.now) (bytes_at c.tp 2)) 2) (later_number (Instruction shape) (lent sys.now io.now) c busy)) (length_of shape) (deed_of shape (lent sys.now io.now) c busy) result }
 {
     if !own_touchable(w.near, c.tp.tag, c.tp.address, count, sys, io) {
         return refused(2);
@@ -215,7 +217,7 @@ fn shaped(
 
 // The number of what is no instruction: 2 where its two bytes may not be touched, else 3 or 4.
 fn unshaped(d: Decoded, tp: Pointer, sys: &[u8], io: &[u8]) -> u32
-    ensures { result ≡ first (unless (all_touchable (lent sys.entry io.entry) (bytes_at tp 2)) 2) (number_of d) }
+    ensures { result ≡ first (unless (all_touchable (lent sys.now io.now) (bytes_at tp 2)) 2) (number_of d) }
 {
     if operands::touchable(tp, 2, sys, io) {
         decode::number(d)
@@ -226,7 +228,7 @@ fn unshaped(d: Decoded, tp: Pointer, sys: &[u8], io: &[u8]) -> u32
 
 // The next instruction of a channel, worked out and neither stored nor written; BUSY is at `busy` of system memory.
 fn plan(c: Channel, busy: u32, sys: &[u8], io: &[u8]) -> Effect
-    ensures { Planned c (plan_number (lent sys.entry io.entry) c busy) (length_from (decoded_at (lent sys.entry io.entry) c.tp)) (deed_at (lent sys.entry io.entry) c busy) result }
+    ensures { Planned c (plan_number (lent sys.now io.now) c busy) (length_from (decoded_at (lent sys.now io.now) c.tp)) (deed_at (lent sys.now io.now) c busy) result }
 {
     let w = windows::eight(c.tp.tag, c.tp.address, sys, io);
     let looked = decode::look_up((w.bytes % 256) as u8, (w.bytes / 256 % 256) as u8);
@@ -296,8 +298,8 @@ fn unmade(c: Channel, number: u32) -> Done
 
 // One instruction of a channel, done or refused; BUSY is at `busy` of system memory.
 pub fn execute(c: Channel, busy: u32, sys: &mut [u8], io: &mut [u8]) -> Done
-    ensures left { executed result.number result.channel (lent sys.exit io.exit) ≡ execute_of c busy (lent sys.entry io.entry) }
-    ensures count { result.count ≡ execute_count c busy (lent sys.entry io.entry) }
+    ensures left { executed result.number result.channel (lent sys.new io.new) ≡ execute_of c busy (lent sys.old io.old) }
+    ensures count { result.count ≡ execute_count c busy (lent sys.old io.old) }
 {
     let e = plan(c, busy, sys, io);
     if e.number != 0 {

@@ -121,7 +121,7 @@ fn second_index(q: Memory, ix: u16, offset: u32) -> u32
 
 // MOV M,M, its second operand read; the offset byte of that stands where TP is past the instruction.
 fn mov_operand(f: Finding, c: Channel, o: Memory, q: Memory, sys: &[u8], io: &[u8]) -> Effect
-    ensures { AllBytes (lent sys.entry io.entry) → f ≡ finding_of (lent sys.entry io.entry) c (MovMemory o) (length_of (MovMemory o)) → IsDeed (lent sys.entry io.entry) c f (mov_operand_deed (lent sys.entry io.entry) (past_instruction c (length_of (MovMemory o))) c.tp o q) result }
+    ensures { AllBytes (lent sys.now io.now) → f ≡ finding_of (lent sys.now io.now) c (MovMemory o) (length_of (MovMemory o)) → IsDeed (lent sys.now io.now) c f (mov_operand_deed (lent sys.now io.now) (past_instruction c (length_of (MovMemory o))) c.tp o q) result }
 {
     let ix = operands::grown_by_width(o, f.ix);
     let base = machine::registers::base(c, q.mm);
@@ -145,7 +145,7 @@ fn mov_operand(f: Finding, c: Channel, o: Memory, q: Memory, sys: &[u8], io: &[u
 
 // MOV M,M.
 pub fn mov_memory(f: Finding, c: Channel, o: Memory, sys: &[u8], io: &[u8]) -> Effect
-    ensures { (busy : ℕ) → Works (MovMemory o) busy f (lent sys.entry io.entry) c result }
+    ensures { (busy : ℕ) → Works (MovMemory o) busy f (lent sys.now io.now) c result }
 {
     let second = decode::decode_second(
         (f.behind % 256) as u8,

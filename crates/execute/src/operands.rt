@@ -14,14 +14,14 @@ use instruction_rules::{Memory, Single, Work};
 
 // The byte at a place.
 pub fn byte(p: Pointer, sys: &[u8], io: &[u8]) -> u8
-    ensures { result ≡ byte_here (lent sys.entry io.entry) p }
+    ensures { result ≡ byte_here (lent sys.now io.now) p }
 {
     memory::byte(sys, io, p.tag, p.address)
 }
 
 // Whether n bytes at a place may be touched.
 pub fn touchable(p: Pointer, n: u32, sys: &[u8], io: &[u8]) -> bool
-    ensures { result ≡ all_touchable (lent sys.entry io.entry) (bytes_at p n) }
+    ensures { result ≡ all_touchable (lent sys.now io.now) (bytes_at p n) }
 {
     memory::span_touchable(sys, io, p.tag, p.address, n)
 }
@@ -46,7 +46,7 @@ pub fn size(wide: bool) -> u32
 
 // What AA adds to the base.
 fn index(c: Channel, m: Memory, pair: Pointer, sys: &[u8], io: &[u8]) -> u32
-    ensures { result ≡ Operands.indexed (lent sys.entry io.entry) c m pair }
+    ensures { result ≡ Operands.indexed (lent sys.now io.now) c m pair }
 {
     let aa = m.aa;
     if aa == 0 {
@@ -60,7 +60,7 @@ fn index(c: Channel, m: Memory, pair: Pointer, sys: &[u8], io: &[u8]) -> u32
 
 // The place of a memory operand whose pair is at `pair`.
 pub fn effective(c: Channel, m: Memory, pair: Pointer, sys: &[u8], io: &[u8]) -> Pointer
-    ensures { result ≡ Operands.effective (lent sys.entry io.entry) c m pair }
+    ensures { result ≡ Operands.effective (lent sys.now io.now) c m pair }
 {
     memory::onward(
         machine::registers::base(c, m.mm),

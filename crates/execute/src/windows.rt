@@ -43,7 +43,7 @@ fn eight_of(space: &[u8], at: usize) -> u64
 
 // Four bytes at a place, each by itself.
 fn four_singly(tag: bool, address: u32, sys: &[u8], io: &[u8]) -> u32
-    ensures { result ≡ four_at (lent sys.entry io.entry) tag address }
+    ensures { result ≡ four_at (lent sys.now io.now) tag address }
 {
     memory::byte(sys, io, tag, address) as u32
         + memory::byte(sys, io, tag, words::sum20(address, 1)) as u32 * 256
@@ -53,7 +53,7 @@ fn four_singly(tag: bool, address: u32, sys: &[u8], io: &[u8]) -> u32
 
 // The four bytes at a place.
 pub fn four(tag: bool, address: u32, sys: &[u8], io: &[u8]) -> u32
-    ensures { result ≡ four_at (lent sys.entry io.entry) tag address }
+    ensures { result ≡ four_at (lent sys.now io.now) tag address }
 {
     if tag {
         let at = (address % 65536) as usize;
@@ -105,7 +105,7 @@ fn about_end(space: &[u8], at: usize, end: usize, most: usize, beyond: u64) -> u
 
 // The eight bytes at a place that are not in one piece.
 fn eight_apart(tag: bool, address: u32, sys: &[u8], io: &[u8]) -> u64
-    ensures { result ≡ eight_at (lent sys.entry io.entry) tag address }
+    ensures { result ≡ eight_at (lent sys.now io.now) tag address }
 {
     if tag {
         let at = (address % 65536) as usize;
@@ -127,9 +127,9 @@ fn eight_apart(tag: bool, address: u32, sys: &[u8], io: &[u8]) -> u64
 
 // The eight bytes at a place.
 pub fn eight(tag: bool, address: u32, sys: &[u8], io: &[u8]) -> Window
-    ensures known { AllBytes (lent sys.entry io.entry) }
-    ensures bytes { result.bytes ≡ eight_at (lent sys.entry io.entry) tag address }
-    ensures near { (n : ℕ) → n ≤ 8 → result.near ≡ true → all_touchable (lent sys.entry io.entry) (span tag address n) ≡ true }
+    ensures known { AllBytes (lent sys.now io.now) }
+    ensures bytes { result.bytes ≡ eight_at (lent sys.now io.now) tag address }
+    ensures near { (n : ℕ) → n ≤ 8 → result.near ≡ true → all_touchable (lent sys.now io.now) (span tag address n) ≡ true }
 {
     if tag {
         let at = (address % 65536) as usize;

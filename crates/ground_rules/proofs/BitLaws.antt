@@ -1,13 +1,13 @@
 -- The laws of a field, of a bit and of a number with one bit changed, each once over the position and the width; and that masks and shifts compute them.
 -- Assumes nothing.
 use mathlib.Core.Bool.{Bool, true, false}
-use mathlib.Core.Path.{◌≡◌, refl, sym, ap, ap₂, subst, ◌∙◌}
-use Prim.Native.Nat.{ℕ, zero, suc, ◌+◌, ◌-◌, ◌*◌, ◌/◌, ◌%◌, ◌^◌, ◌<◌, ◌≤◌}
+use mathlib.Core.Path.{◌≡◌, sym, ap, ap₂, subst, ◌∙◌}
+use Prim.Native.Nat.{ℕ, ◌+◌, ◌-◌, ◌*◌, ◌/◌, ◌%◌, ◌^◌, ◌<◌, ◌≤◌}
 use native.Mathlib.Nat.{mod-lt, mod-eq_of_lt, mod-mod, div-eq_of_lt, div-le_self, zero-mod, zero-mul, one-mul, add-zero, add_comm, add_assoc, mul_assoc, mul_comm, add-mul, lt_of_lt_of_le, lt_of_le_of_lt}
 use native.Mathlib.Decide.{ℕ_discrete, dec_lt}
 use native.Mathlib.Omega.{arith}
 use lib.Bits.{bit_and, bit_or, and_mask, and_high, and_block, and_le_l, or_block, or_step, or_zero_r, or_lt}
-use lib.Pow.{pow_pos, pow_mono, pow-add, pow-lt, ones_lt, high_ones, shr-shr, shr_mod, shr_lt, split, high, low, field, mod-mod-pow, mod-pow-add}
+use lib.Pow.{pow_pos, pow_mono, pow-add, pow-lt, ones_lt, shr-shr, shr_mod, shr_lt, split, high, low, field, mod-mod-pow, mod-pow-add}
 use borrow.Author.Tests.{eq-eqb, ne_eqb}
 use lib.Dec.{eqb}
 use Rattle.ground_rules.specs.Choice.{pick}

@@ -6,7 +6,6 @@ use mathlib.Core.Bool.{Bool, true, false}
 use mathlib.Core.List.{List, [], ◌∷◌}
 use native.Mathlib.Omega.{arith}
 use Rattle.ground_rules.specs.Buffers.{Buffers, buffers, space_of, index_of, beyond_in, byte_at, AllBytes, store_byte}
-use Rattle.ground_rules.specs.Choice.{pick}
 use Rattle.ground_rules.specs.Stored.{stored_high}
 use Rattle.ground_rules.specs.Values.{store_pointer}
 use Rattle.ground_rules.specs.declared.Pointer.{Pointer}

@@ -8,7 +8,6 @@ use mathlib.Core.Path.{◌≡◌, refl}
 use Rattle.ground_rules.specs.declared.Pointer.{Pointer}
 use Rattle.ground_rules.proofs.ChoiceLaws.{both_left, both_right}
 use Rattle.ground_rules.specs.Choice.{pick}
-use Rattle.ground_rules.specs.Outcomes.{first}
 use Rattle.ground_rules.specs.States.{idle_channel, fresh_state, fresh_of, channel_of, with_channel, with_last, sound_channel, sound, is_second, channel_number}
 use Rattle.ground_rules.specs.Updates.{with_control}
 use Rattle.ground_rules.specs.declared.Made.{Made}

@@ -7,7 +7,7 @@ use mathlib.Core.Bool.{Bool, true, false, ◌&&◌, ◌||◌}
 use mathlib.Core.Path.{◌≡◌, refl, sym, ap}
 use native.Mathlib.Nat.{mod-lt}
 use native.Mathlib.Omega.{arith}
-use Rattle.ground_rules.proofs.ChoiceLaws.{apart, both_left, both_right}
+use Rattle.ground_rules.proofs.ChoiceLaws.{both_left, both_right}
 use Rattle.ground_rules.specs.Choice.{pick}
 use Rattle.ground_rules.specs.Holdings.{held_number, held_from, is_held_number}
 use Rattle.ground_rules.specs.declared.Held.{Held}

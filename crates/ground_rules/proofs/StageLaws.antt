@@ -4,21 +4,20 @@ use Prim.Native.Nat.{ℕ, zero, suc}
 use borrow.Author.Tests.{eqb-false}
 use lib.Dec.{eqb, eqb-suc-zero}
 use mathlib.Core.Bool.{Bool, true, false, ◌&&◌}
-use mathlib.Core.List.{List, [], ◌∷◌, ◌++◌}
+use mathlib.Core.List.{List, [], ◌∷◌}
 use mathlib.Core.Logic.Iff
 use mathlib.Core.Logic.{◌↔◌}
-use mathlib.Core.Path.{◌≡◌, refl, sym, ap, ◌∙◌}
+use mathlib.Core.Path.{◌≡◌, refl, ap, ◌∙◌}
 use native.Mathlib.Omega.{arith}
 use Rattle.ground_rules.proofs.SpanLaws.{all_append}
 use Rattle.ground_rules.specs.Buffers.{Buffers, touchable_at}
 use Rattle.ground_rules.specs.Places.{Place, all_pass, all_touchable}
-use Rattle.ground_rules.proofs.ChoiceLaws.{apart, and-true}
+use Rattle.ground_rules.proofs.ChoiceLaws.{apart}
 use Rattle.ground_rules.specs.Choice.{pick}
 use Rattle.ground_rules.specs.Conditions.{Beyond}
 use Rattle.ground_rules.specs.Outcomes.{unless, first}
-use Rattle.ground_rules.specs.Stages.{Stage, stage, stages_number, stages_touched, JudgedElse}
+use Rattle.ground_rules.specs.Stages.{Stage, stages_number, stages_touched, JudgedElse}
 use Rattle.ground_rules.proofs.ConditionLaws.{told-exactly, told-touchable}
-use Rattle.ground_rules.proofs.OutcomeLaws.{first_some, first-zero, unless-true, unless-false}
 
 -- the number of a stage and those after it, by whether its bytes may be touched and by what it judges
 one : Bool → ℕ → ℕ → ℕ

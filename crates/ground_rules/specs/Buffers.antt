@@ -1,6 +1,5 @@
 -- The two lent buffers (§1), and all that is decided about a single byte: where it lies, whether it is lent, whether a call may touch it, what a
 -- read gives and what a store does.
-use Rattle.std.specs.Borrow.{Bor}
 use Rattle.std.specs.Prelude.{Bool, true, false, ◌&&◌, ◌||◌, ◌≡◌, List, ℕ, ◌%◌, ◌<◌, length, get_or, set, ltb, leb}
 use Rattle.ground_rules.specs.Choice.{pick}
 
@@ -13,8 +12,8 @@ abbrev pub buffers : List ℕ → List ℕ → Buffers
 buffers sys io = record { sys = sys; io = io }
 
 -- what two lent buffers hold, as a contract speaks of them: at entry, at exit
-abbrev pub lent : Bor (List ℕ) → Bor (List ℕ) → Buffers
-lent sys io = buffers sys.now io.now
+abbrev pub lent : List ℕ → List ℕ → Buffers
+lent sys io = buffers sys io
 
 -- the buffer that a tag names: 0 system memory, 1 I/O memory (§1.2)
 unfoldable pub space_of : Buffers → Bool → List ℕ

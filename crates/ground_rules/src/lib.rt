@@ -1,14 +1,15 @@
 // Types of the ground: pointers, a channel, the board, a state, and what a call on one answers.
+#![tactic(auto)]
 
 // A pointer: 20 bits of address, and the tag that names its space (false system, true I/O).
-#[derive(Drop)]
+#[derive(Clone, Copy)]
 pub struct Pointer {
     pub address: u32,
     pub tag: bool,
 }
 
 // What a channel is doing.
-#[derive(Drop)]
+#[derive(Clone, Copy)]
 pub enum Mode {
     Idle,
     Running,
@@ -17,7 +18,7 @@ pub enum Mode {
 
 // The fields of CC: which sides move on, whether bytes are translated, SYN (0 none, 1 source, 2 destination), whether the
 // source is GB, else GA, whether the program is chained, TS, and the codes of TX, TBC and TMC.
-#[derive(Drop)]
+#[derive(Clone, Copy)]
 pub struct Fields {
     pub destinationMoves: bool,
     pub sourceMoves: bool,
@@ -32,14 +33,14 @@ pub struct Fields {
 }
 
 // The byte that a channel holds between the two halves of a pair of transfer steps, or none.
-#[derive(Drop)]
+#[derive(Clone, Copy)]
 pub enum Held {
     NoByte,
     Byte(u8),
 }
 
 // The registers of a channel; beside CC stand its fields, which every operation that writes CC renews.
-#[derive(Drop)]
+#[derive(Clone, Copy)]
 pub struct Channel {
     pub ga: Pointer,
     pub gb: Pointer,
@@ -59,7 +60,7 @@ pub struct Channel {
 
 // What an instruction or a transfer step answers: its number, 0 for done, how many bytes it read and stored, and the
 // channel after it.
-#[derive(Drop)]
+#[derive(Clone, Copy)]
 pub struct Done {
     pub number: u32,
     pub count: u32,
@@ -68,7 +69,7 @@ pub struct Done {
 
 // What the board set up: whether the processor is powered up, the physical widths, SYSBUS bit 0 of the system bus and SOC
 // bit 0 of the I/O bus (true = 16 bits), and SOC bit 1.
-#[derive(Drop)]
+#[derive(Clone, Copy)]
 pub struct Board {
     pub powered: bool,
     pub sysbus: bool,
@@ -77,7 +78,7 @@ pub struct Board {
 }
 
 // Both channels, the control block's address, whether channel 2 was the last to step, and what the board set up.
-#[derive(Drop)]
+#[derive(Clone, Copy)]
 pub struct State {
     pub first: Channel,
     pub second: Channel,
@@ -87,7 +88,7 @@ pub struct State {
 }
 
 // What a call answers: its number, 0 for done, how many bytes it read and stored, and the state.
-#[derive(Drop)]
+#[derive(Clone, Copy)]
 pub struct Answer {
     pub number: u32,
     pub count: u32,
@@ -95,7 +96,7 @@ pub struct Answer {
 }
 
 // A state that was made of a CP, and the number of that, 0 for done.
-#[derive(Drop)]
+#[derive(Clone, Copy)]
 pub struct Made {
     pub number: u32,
     pub state: State,

@@ -199,6 +199,6 @@ module _ (m : Buffers) (c : Channel) (busy : ℕ) where
   touched-most z = subst (λ (k : ℕ). k ≤ 10) (sym (touched-length z)) (deed-most (decoded_at m c.tp))
 
 -- an instruction has its pair and the bytes after it, and what is none has no bytes
-pub length_from : (s : Shape) (c : Channel) → (length_from (Instruction s) ≡ 2 + length (later_from (Instruction s) c)) × ((length_from NoInstruction ≡ 0) × (length_from ControlUsed ≡ 0))
+pub length-from : (s : Shape) (c : Channel) → (length_from (Instruction s) ≡ 2 + length (later_from (Instruction s) c)) × ((length_from NoInstruction ≡ 0) × (length_from ControlUsed ≡ 0))
 unfolding length_from later_from later_bytes
-length_from s c = (omega (arith, span-length (onward c.tp 2).tag (onward c.tp 2).address (length_of s - 2), (bounded s).0), (refl, refl))
+length-from s c = (omega (arith, span-length (onward c.tp 2).tag (onward c.tp 2).address (length_of s - 2), (bounded s).0), (refl, refl))

@@ -7,13 +7,16 @@ use Prim.Native.Nat.{ℕ, ◌+◌}
 use native.Mathlib.Omega.{arith}
 use lib.Dec.{T, eqb, leb}
 use borrow.Author.Tests.{eqb-true, eqb-false}
+use Rattle.ground_rules.specs.Bits.{bit_of}
 use Rattle.ground_rules.specs.Choice.{pick}
 use Rattle.instruction_rules.specs.Pairs.{Column, meets, pair_of, wide_of, two_of, memory_of}
-use Rattle.instruction_rules.specs.Pairs.Column.{'0, '1, '00, '10, '11, '000, 'PPP, 'AA, 'W, 'MM, 'dd, 'wb}
+use Rattle.instruction_rules.specs.Pairs.Column.{'0, '1, '00, '10, '11, '000, 'PPP, 'dd, 'wb, 'AA, 'W, 'MM}
 use Rattle.instruction_rules.specs.Rows.{is_control}
 use Rattle.instruction_rules.specs.declared.Pair.{Pair}
 use Rattle.instruction_rules.specs.declared.Shape.{Shape}
-use Rattle.instruction_rules.specs.declared.Shape.TheVariants.{Lpdi, MovMemory, Tsl}
+use Rattle.instruction_rules.specs.declared.Work.{Work}
+use Rattle.instruction_rules.specs.declared.Single.{Single}
+use Rattle.instruction_rules.specs.declared.Shape.TheVariants.{Nop, Sintr, Xfer, Wid, Hlt, Lpdi, RegisterImmediate, Register, JumpRegister, RegisterMemory, MemoryRegister, MemoryImmediate, MemoryAlone, JumpMemory, Lpd, MovpLoad, MovpStore, MovMemory, Tsl, Call, JumpMasked, JumpBit, Bit}
 use Rattle.instruction_rules.specs.declared.Decoded.TheVariants.{Instruction, NoInstruction, ControlUsed}
 use Rattle.instruction_rules.specs.Table.{SummaryRow, row, table, accepts}
 use Rattle.instruction_rules.specs.Reading.{fits, lookup, decode_of}
@@ -143,51 +146,51 @@ data Rights : List SummaryRow → Type 0 where
 rights : Rights table
 unfolding table ordinary length_of data_length displacement_length
 rights =
-    plain-memory _ _ _ _ _ tt (λ p. refl)  -- LPD P,M
+    plain-memory _ _ _ _ (λ p. Lpd p.rrr (memory_of p)) tt (λ p. refl)  -- LPD P,M
     ▸ lpdi  -- LPDI P,I
-    ▸ plain-memory _ _ _ _ _ tt (λ p. refl)  -- MOVP M,P
-    ▸ plain-memory _ _ _ _ _ tt (λ p. refl)  -- MOVP P,M
+    ▸ plain-memory _ _ _ _ (λ p. MovpStore p.rrr (memory_of p)) tt (λ p. refl)  -- MOVP M,P
+    ▸ plain-memory _ _ _ _ (λ p. MovpLoad p.rrr (memory_of p)) tt (λ p. refl)  -- MOVP P,M
     ▸ mov-memory  -- MOV M,M
-    ▸ plain-memory _ _ _ _ _ tt (λ p. refl)  -- MOV R,M
-    ▸ plain-memory _ _ _ _ _ tt (λ p. refl)  -- MOV M,R
-    ▸ data-register _ _ _ _ _ tt (λ p. refl)  -- MOVI R
-    ▸ data-memory _ _ _ _ _ tt (λ p. refl)  -- MOVI M
-    ▸ jump-memory _ _ _ _ _ tt (λ p. refl)  -- CALL
-    ▸ jump-memory _ _ _ _ _ tt (λ p. refl)  -- JZ M
-    ▸ jump-register _ _ _ _ _ tt (λ p. refl)  -- JZ R
-    ▸ jump-memory _ _ _ _ _ tt (λ p. refl)  -- JNZ M
-    ▸ jump-register _ _ _ _ _ tt (λ p. refl)  -- JNZ R
-    ▸ jump-memory _ _ _ _ _ tt (λ p. refl)  -- JBT
-    ▸ jump-memory _ _ _ _ _ tt (λ p. refl)  -- JNBT
-    ▸ jump-memory _ _ _ _ _ tt (λ p. refl)  -- JMCE
-    ▸ jump-memory _ _ _ _ _ tt (λ p. refl)  -- JMCNE
-    ▸ plain-memory _ _ _ _ _ tt (λ p. refl)  -- INC M
-    ▸ plain-register _ _ _ _ _ tt (λ p. refl)  -- INC R
-    ▸ plain-memory _ _ _ _ _ tt (λ p. refl)  -- DEC M
-    ▸ plain-register _ _ _ _ _ tt (λ p. refl)  -- DEC R
-    ▸ data-memory _ _ _ _ _ tt (λ p. refl)  -- ADDI M,I
-    ▸ data-register _ _ _ _ _ tt (λ p. refl)  -- ADDI R,I
-    ▸ plain-memory _ _ _ _ _ tt (λ p. refl)  -- ADD M,R
-    ▸ plain-memory _ _ _ _ _ tt (λ p. refl)  -- ADD R,M
-    ▸ data-memory _ _ _ _ _ tt (λ p. refl)  -- ANDI M,I
-    ▸ data-register _ _ _ _ _ tt (λ p. refl)  -- ANDI R,I
-    ▸ plain-memory _ _ _ _ _ tt (λ p. refl)  -- AND M,R
-    ▸ plain-memory _ _ _ _ _ tt (λ p. refl)  -- AND R,M
-    ▸ data-memory _ _ _ _ _ tt (λ p. refl)  -- ORI M,I
-    ▸ data-register _ _ _ _ _ tt (λ p. refl)  -- ORI R,I
-    ▸ plain-memory _ _ _ _ _ tt (λ p. refl)  -- OR M,R
-    ▸ plain-memory _ _ _ _ _ tt (λ p. refl)  -- OR R,M
-    ▸ plain-register _ _ _ _ _ tt (λ p. refl)  -- NOT R
-    ▸ plain-memory _ _ _ _ _ tt (λ p. refl)  -- NOT M
-    ▸ plain-memory _ _ _ _ _ tt (λ p. refl)  -- NOT R,M
-    ▸ plain-memory _ _ _ _ _ tt (λ p. refl)  -- SETB
-    ▸ plain-memory _ _ _ _ _ tt (λ p. refl)  -- CLR
+    ▸ plain-memory _ _ _ _ (λ p. RegisterMemory Work.Mov p.rrr (memory_of p)) tt (λ p. refl)  -- MOV R,M
+    ▸ plain-memory _ _ _ _ (λ p. MemoryRegister Work.Mov p.rrr (memory_of p)) tt (λ p. refl)  -- MOV M,R
+    ▸ data-register _ _ _ _ (λ p. RegisterImmediate Work.Mov p.rrr (wide_of p)) tt (λ p. refl)  -- MOVI R
+    ▸ data-memory _ _ _ _ (λ p. MemoryImmediate Work.Mov (memory_of p)) tt (λ p. refl)  -- MOVI M
+    ▸ jump-memory _ _ _ _ (λ p. Call (memory_of p) (two_of p)) tt (λ p. refl)  -- CALL
+    ▸ jump-memory _ _ _ _ (λ p. JumpMemory true (memory_of p) (two_of p)) tt (λ p. refl)  -- JZ M
+    ▸ jump-register _ _ _ _ (λ p. JumpRegister true p.rrr (two_of p)) tt (λ p. refl)  -- JZ R
+    ▸ jump-memory _ _ _ _ (λ p. JumpMemory false (memory_of p) (two_of p)) tt (λ p. refl)  -- JNZ M
+    ▸ jump-register _ _ _ _ (λ p. JumpRegister false p.rrr (two_of p)) tt (λ p. refl)  -- JNZ R
+    ▸ jump-memory _ _ _ _ (λ p. JumpBit true p.rrr (memory_of p) (two_of p)) tt (λ p. refl)  -- JBT
+    ▸ jump-memory _ _ _ _ (λ p. JumpBit false p.rrr (memory_of p) (two_of p)) tt (λ p. refl)  -- JNBT
+    ▸ jump-memory _ _ _ _ (λ p. JumpMasked true (memory_of p) (two_of p)) tt (λ p. refl)  -- JMCE
+    ▸ jump-memory _ _ _ _ (λ p. JumpMasked false (memory_of p) (two_of p)) tt (λ p. refl)  -- JMCNE
+    ▸ plain-memory _ _ _ _ (λ p. MemoryAlone Single.Inc (memory_of p)) tt (λ p. refl)  -- INC M
+    ▸ plain-register _ _ _ _ (λ p. Register Single.Inc p.rrr) tt (λ p. refl)  -- INC R
+    ▸ plain-memory _ _ _ _ (λ p. MemoryAlone Single.Dec (memory_of p)) tt (λ p. refl)  -- DEC M
+    ▸ plain-register _ _ _ _ (λ p. Register Single.Dec p.rrr) tt (λ p. refl)  -- DEC R
+    ▸ data-memory _ _ _ _ (λ p. MemoryImmediate Work.Add (memory_of p)) tt (λ p. refl)  -- ADDI M,I
+    ▸ data-register _ _ _ _ (λ p. RegisterImmediate Work.Add p.rrr (wide_of p)) tt (λ p. refl)  -- ADDI R,I
+    ▸ plain-memory _ _ _ _ (λ p. MemoryRegister Work.Add p.rrr (memory_of p)) tt (λ p. refl)  -- ADD M,R
+    ▸ plain-memory _ _ _ _ (λ p. RegisterMemory Work.Add p.rrr (memory_of p)) tt (λ p. refl)  -- ADD R,M
+    ▸ data-memory _ _ _ _ (λ p. MemoryImmediate Work.And (memory_of p)) tt (λ p. refl)  -- ANDI M,I
+    ▸ data-register _ _ _ _ (λ p. RegisterImmediate Work.And p.rrr (wide_of p)) tt (λ p. refl)  -- ANDI R,I
+    ▸ plain-memory _ _ _ _ (λ p. MemoryRegister Work.And p.rrr (memory_of p)) tt (λ p. refl)  -- AND M,R
+    ▸ plain-memory _ _ _ _ (λ p. RegisterMemory Work.And p.rrr (memory_of p)) tt (λ p. refl)  -- AND R,M
+    ▸ data-memory _ _ _ _ (λ p. MemoryImmediate Work.Or (memory_of p)) tt (λ p. refl)  -- ORI M,I
+    ▸ data-register _ _ _ _ (λ p. RegisterImmediate Work.Or p.rrr (wide_of p)) tt (λ p. refl)  -- ORI R,I
+    ▸ plain-memory _ _ _ _ (λ p. MemoryRegister Work.Or p.rrr (memory_of p)) tt (λ p. refl)  -- OR M,R
+    ▸ plain-memory _ _ _ _ (λ p. RegisterMemory Work.Or p.rrr (memory_of p)) tt (λ p. refl)  -- OR R,M
+    ▸ plain-register _ _ _ _ (λ p. Register Single.Not p.rrr) tt (λ p. refl)  -- NOT R
+    ▸ plain-memory _ _ _ _ (λ p. MemoryAlone Single.Not (memory_of p)) tt (λ p. refl)  -- NOT M
+    ▸ plain-memory _ _ _ _ (λ p. RegisterMemory Work.Not p.rrr (memory_of p)) tt (λ p. refl)  -- NOT R,M
+    ▸ plain-memory _ _ _ _ (λ p. Bit true p.rrr (memory_of p)) tt (λ p. refl)  -- SETB
+    ▸ plain-memory _ _ _ _ (λ p. Bit false p.rrr (memory_of p)) tt (λ p. refl)  -- CLR
     ▸ tsl  -- TSL
-    ▸ plain-register _ _ _ _ _ tt (λ p. refl)  -- HLT
-    ▸ plain-register _ _ _ _ _ tt (λ p. refl)  -- SINTR
-    ▸ plain-register _ _ _ _ _ tt (λ p. refl)  -- NOP
-    ▸ plain-register _ _ _ _ _ tt (λ p. refl)  -- XFER
-    ▸ plain-register _ _ _ _ _ tt (λ p. refl)  -- WID
+    ▸ plain-register _ _ _ _ (λ p. Hlt) tt (λ p. refl)  -- HLT
+    ▸ plain-register _ _ _ _ (λ p. Sintr) tt (λ p. refl)  -- SINTR
+    ▸ plain-register _ _ _ _ (λ p. Nop) tt (λ p. refl)  -- NOP
+    ▸ plain-register _ _ _ _ (λ p. Xfer) tt (λ p. refl)  -- XFER
+    ▸ plain-register _ _ _ _ (λ p. Wid (bit_of p.rrr 1) (bit_of p.rrr 0)) tt (λ p. refl)  -- WID
     ▸ end
 
 found : (rs : List SummaryRow) (p : Pair) (s : Shape) → Rights rs → lookup rs p ≡ Instruction s → length_of s ≡ pair_length p

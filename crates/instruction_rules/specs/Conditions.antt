@@ -1,7 +1,6 @@
 -- The numbers of an instruction, each given exactly where its own condition holds and no earlier one: the conditions, and their order (§6.22).
-use Rattle.std.specs.Prelude.{List, [], ◌∷◌, ◌⊎◌, ◌≡◌, ℕ}
+use Rattle.std.specs.Prelude.{List, [], ◌∷◌, ◌≡◌, ℕ}
 use Rattle.ground_rules.specs.Buffers.{Buffers}
-use Rattle.ground_rules.specs.Places.{Place}
 use Rattle.ground_rules.specs.Conditions.{Check, check, Beyond}
 use Rattle.ground_rules.specs.declared.Channel.{Channel}
 use Rattle.instruction_rules.specs.declared.Memory.{Memory}

@@ -16,7 +16,7 @@ use Rattle.instruction_rules.specs.Reading.{second_of, second_number_of}
 use Rattle.instruction_rules.specs.Lengths.{offset_length}
 use Rattle.instruction_rules.specs.Operands.{after_pair, byte_here, bytes_at, further, size_of, effective, grown, operand_at, work_of, single_of, is_move}
 use Rattle.instruction_rules.specs.declared.Change.{Change}
-use Rattle.instruction_rules.specs.Changes.{nothing, byte_to, result_to, pointer_to}
+use Rattle.instruction_rules.specs.Changes.{nothing, result_to, pointer_to}
 use Rattle.instruction_rules.specs.Deeds.{Deed, deed}
 
 -- the bytes that work reads of a memory operand: a move reads none (§6.12)

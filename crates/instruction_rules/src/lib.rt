@@ -1,8 +1,10 @@
 // Types of the rules of instructions: what a pair of bytes stands for, and what an instruction comes to.
+#![tactic(auto)]
+
 use ground_rules::Pointer;
 
 // The memory operand of a pair: MM, AA and W.
-#[derive(Drop)]
+#[derive(Clone, Copy)]
 pub struct Memory {
     pub mm: u32,
     pub aa: u32,
@@ -10,7 +12,7 @@ pub struct Memory {
 }
 
 // What an instruction with two operands does with them.
-#[derive(Drop)]
+#[derive(Clone, Copy)]
 pub enum Work {
     Mov,
     Add,
@@ -20,7 +22,7 @@ pub enum Work {
 }
 
 // What an instruction with one operand does with it.
-#[derive(Drop)]
+#[derive(Clone, Copy)]
 pub enum Single {
     Not,
     Inc,
@@ -28,7 +30,7 @@ pub enum Single {
 }
 
 // An instruction as its pair shows it; the bytes that follow the pair are not yet read.
-#[derive(Drop)]
+#[derive(Clone, Copy)]
 pub enum Shape {
     Nop,
     Sintr,
@@ -119,7 +121,7 @@ pub enum Shape {
 }
 
 // What a first pair is: an instruction, or a refusal by 3 or by 4.
-#[derive(Drop)]
+#[derive(Clone, Copy)]
 pub enum Decoded {
     Instruction(Shape),
     NoInstruction,
@@ -127,14 +129,14 @@ pub enum Decoded {
 }
 
 // What the second pair of MOV M,M is: the operand stored to, or a refusal by 3.
-#[derive(Drop)]
+#[derive(Clone, Copy)]
 pub enum Second {
     Operand(Memory),
     NoSecond,
 }
 
 // The fields of a pair: RRR, dd, AA and W of its first byte, opcode and MM of its second.
-#[derive(Drop)]
+#[derive(Clone, Copy)]
 pub struct Pair {
     pub rrr: u32,
     pub dd: u32,
@@ -145,14 +147,14 @@ pub struct Pair {
 }
 
 // A pair looked up: what it is, and the bytes of the instruction that it begins.
-#[derive(Drop)]
+#[derive(Clone, Copy)]
 pub struct Looked {
     pub decoded: Decoded,
     pub length: u32,
 }
 
 // What an instruction stores: the lowest `count` bytes of a value at a place, at most three, the lowest first.
-#[derive(Drop)]
+#[derive(Clone, Copy)]
 pub struct Change {
     pub count: u32,
     pub at: Pointer,

@@ -1,5 +1,4 @@
 mod PasteLaws
-mod ReaderLaws
 pub mod UnusedLaws
 pub mod RowLaws
 pub mod ListLaws

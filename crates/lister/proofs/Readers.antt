@@ -1,5 +1,5 @@
 -- The reader, of the contracts that the prover made: `next` and `moved_on` in turn hand out the lines of the listing, and what each answers is one.
--- Both are walked by hand, so what is said of them is an entailment between their clauses.
+-- What is said of them is an entailment between their clauses.
 -- Assumes nothing.
 use mathlib.Core.Path.{◌≡◌, refl, sym, ap, ap₂, ◌∙◌}
 use mathlib.Core.List.{List, [], ◌∷◌}

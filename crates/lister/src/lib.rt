@@ -1,4 +1,5 @@
 // The lister: a channel's program as lines that an engineer can read.
+#![tactic(auto)]
 
 // The reader over the program bytes: one instruction at a time.
 pub mod reading;

@@ -10,7 +10,7 @@ use notation::lines;
 use notation::lines::Line;
 
 // A line, and how many bytes it lists.
-#[derive(Drop)]
+#[derive(Clone, Copy)]
 struct ListedRow {
     line: Line,
     count: usize,
@@ -109,7 +109,7 @@ fn place(text: &mut [u8], at: usize, line: Line)
 }
 
 // What a listing answers: the characters written, and the byte at which it stopped.
-#[derive(Drop)]
+#[derive(Clone, Copy)]
 pub struct Listed {
     pub characters: u32,
     pub stop: u32,

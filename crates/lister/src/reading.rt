@@ -95,7 +95,7 @@ fn place_behind(code: &[u8], at: usize) -> usize
 }
 
 // A reader over the program bytes: it keeps its place.
-#[derive(Drop)]
+#[derive(Clone, Copy)]
 pub struct Reader<'a> {
     pub code: &'a [u8],
     pub at: usize,

@@ -1,17 +1,16 @@
 -- The bytes of an instruction from its places: equal operands stand for equal bytes, and with the pairs they are all its bytes.
 -- Assumes nothing.
-use mathlib.Core.Path.{◌≡◌, refl, sym, ap, subst, ◌∙◌}
+use mathlib.Core.Path.{◌≡◌, refl, sym, ap, ◌∙◌}
 use mathlib.Core.Bool.{Bool, true, false, ◌&&◌, false≢true}
 use mathlib.Core.List.{List, [], ◌∷◌, ◌++◌, append_assoc, append-nil}
-use Prim.Native.Nat.{ℕ, zero, suc, ◌+◌, ◌*◌, ◌-◌, ◌/◌, ◌%◌, ◌≤◌, ◌<◌}
+use Prim.Native.Nat.{ℕ, ◌+◌, ◌*◌, ◌/◌, ◌%◌, ◌≤◌, ◌<◌}
 use native.Mathlib.Numerals.{add-one}
 use native.Mathlib.Omega.{arith}
-use lib.Dec.{eqb, ltb, lit<}
-use lib.ListN.{length, get_or, take, drop}
+use lib.Dec.{eqb, ltb}
+use lib.ListN.{length, get_or, take}
 use lib.Seq.{take-suc}
 use borrow.Author.Tests.{eqb-true, eqb-false, ltb-true, ltb-false}
 use Rattle.ground_rules.specs.Bits.{field_of}
-use Rattle.ground_rules.specs.Bytes.{word_of, low_byte, high_byte}
 use Rattle.ground_rules.specs.Choice.{pick}
 use Rattle.ground_rules.specs.Signs.{extended}
 use Rattle.instruction_rules.specs.Pairs.{pair_of, memory_of, columns, meets}
@@ -20,7 +19,6 @@ use Rattle.instruction_rules.specs.declared.Memory.{Memory}
 use Rattle.instruction_rules.specs.declared.Pair.{Pair}
 use Rattle.instruction_rules.specs.declared.Shape.{Shape}
 use Rattle.instruction_rules.specs.declared.Shape.TheVariants.{Nop, Sintr, Xfer, Wid, Hlt, Lpdi, RegisterImmediate, Register, JumpRegister, RegisterMemory, MemoryRegister, MemoryImmediate, MemoryAlone, JumpMemory, Lpd, MovpLoad, MovpStore, MovMemory, Tsl, Call, JumpMasked, JumpBit, Bit}
-use Rattle.instruction_rules.specs.declared.Second.{Second}
 use Rattle.instruction_rules.specs.declared.Second.TheVariants.{Operand, NoSecond}
 use Rattle.instruction_rules.specs.Reading.{second_of}
 use Rattle.instruction_rules.specs.Lengths.{more_by, offset_by, offset_length, data_length, displacement_length, length_of}

@@ -3,14 +3,14 @@
 use mathlib.Core.Path.{◌≡◌, refl, sym, ap, subst, ◌∙◌}
 use mathlib.Core.Bool.{Bool, true, false, ◌&&◌, false≢true}
 use mathlib.Core.List.{List, [], ◌∷◌}
-use mathlib.Core.Logic.{◌⊎◌, inl, inr}
-use Prim.Native.Nat.{ℕ, zero, suc, ◌+◌, ◌*◌, ◌<◌}
+use mathlib.Core.Logic.{inl, inr}
+use Prim.Native.Nat.{ℕ, ◌<◌}
 use native.Mathlib.Omega.{arith}
 use lib.Dec.{T, eqb}
 use borrow.Author.Tests.{eqb-true, eqb-false}
 use Rattle.ground_rules.specs.Bits.{bit_of, field_of}
 use Rattle.ground_rules.specs.Choice.{pick}
-use Rattle.instruction_rules.specs.Pairs.{Column, meets, columns, pair_of, wide_of, two_of, memory_of}
+use Rattle.instruction_rules.specs.Pairs.{Column, meets, pair_of}
 use Rattle.instruction_rules.specs.Pairs.Column.{'0, '1, '00, '10, '11, '000, '001, '010, '011, '100, '1SD, 'RRR, 'PPP, 'BBB, 'dd, 'wb, 'AA, 'W, 'MM}
 use Rattle.instruction_rules.specs.Rows.{is_control}
 use Rattle.instruction_rules.specs.declared.Memory.{Memory}
@@ -18,15 +18,13 @@ use Rattle.instruction_rules.specs.declared.Pair.{Pair}
 use Rattle.instruction_rules.specs.declared.Work.{Work}
 use Rattle.instruction_rules.specs.declared.Shape.{Shape}
 use Rattle.instruction_rules.specs.declared.Shape.TheVariants.{RegisterImmediate, Wid}
-use Rattle.instruction_rules.specs.declared.Decoded.TheVariants.{Instruction, NoInstruction, ControlUsed}
-use Rattle.instruction_rules.specs.Table.{SummaryRow, row, table}
+use Rattle.instruction_rules.specs.declared.Decoded.TheVariants.{Instruction, ControlUsed}
+use Rattle.instruction_rules.specs.Table.{SummaryRow, table}
 use Rattle.instruction_rules.specs.Reading.{fits, lookup, decode_of}
 use Rattle.listing_rules.specs.Characters.{ascii, same_text}
 use Rattle.listing_rules.specs.Mnemonics.{is_jump, mnemonic_of, is_listed}
-use Rattle.listing_rules.specs.Forms.{Operand, slots_of, filled}
-use Rattle.listing_rules.specs.Forms.Operand.{none, register, memory, number, digit}
-use Rattle.listing_rules.specs.Entries.{OperandKind, Entry, entry, entries}
-use Rattle.listing_rules.specs.Entries.OperandKind.{'R, 'G, 'P, 'M, 'byte, 'word, 'bit, 'width, 'short, 'long}
+use Rattle.listing_rules.specs.Forms.{slots_of, filled}
+use Rattle.listing_rules.specs.Entries.{entries}
 use Rattle.listing_rules.specs.Back.{asked, offered, fits_form, entry_for, digits_in, rrr_in, mm_in, aa_in, pair_from, pair_back, operands_of}
 use Rattle.listing_rules.proofs.SpellingLaws.{is_mark, clean, present, Fair, each}
 

@@ -1,14 +1,14 @@
 -- When a line is a DB line, and when the reader finds no instruction.
 -- Assumes nothing.
 use mathlib.Core.Path.{◌≡◌, refl, sym, ap, ◌∙◌}
-use mathlib.Core.Bool.{Bool, true, false, not, ◌&&◌, false≢true}
+use mathlib.Core.Bool.{Bool, true, false, not, false≢true}
 use mathlib.Core.List.{List, [], ◌∷◌, ◌++◌, append_assoc}
 use mathlib.Core.Logic.{◌↔◌}
 use Prim.Native.Nat.{ℕ, ◌+◌, ◌≤◌, ◌<◌}
 use native.Mathlib.Omega.{arith}
 use lib.Dec.{T, eqb, ltb}
 use lib.ListN.{length, get_or, take}
-use borrow.Author.Tests.{eqb-true, eqb-false, eq-eqb, ne_eqb, ltb-true, ltb-false}
+use borrow.Author.Tests.{eqb-true, eqb-false, ltb-true, ltb-false}
 use Rattle.ground_rules.specs.Choice.{pick}
 use Rattle.instruction_rules.specs.Pairs.{pair_of}
 use Rattle.instruction_rules.specs.declared.Memory.{Memory}
@@ -20,20 +20,20 @@ use Rattle.instruction_rules.specs.declared.Second.TheVariants.{Operand, NoSecon
 use Rattle.instruction_rules.specs.Reading.{decode_of, number_of}
 use Rattle.instruction_rules.specs.Lengths.{offset_length, length_of}
 use Rattle.listing_rules.specs.Characters.{ascii}
-use Rattle.listing_rules.specs.Mnemonics.{is_listed, mnemonic_of}
+use Rattle.listing_rules.specs.Mnemonics.{is_listed}
 use Rattle.listing_rules.specs.Forms.{following}
 use Rattle.listing_rules.specs.Forms.Operand.{none, register, memory, number, digit}
 use Rattle.listing_rules.specs.Forms as Forms
 use Rattle.listing_rules.specs.Lines.{instruction_line, data_line}
 use Rattle.listing_rules.proofs.LineLaws.{and_left, and_right}
 use Rattle.listing_rules.proofs.SpellingLaws.{is_mark, clean, marks, Bytes, not-mark}
-use Rattle.listing_rules.proofs.EntryLaws.{Known, known}
+use Rattle.listing_rules.proofs.EntryLaws.{known}
 use Rattle.listing_rules.specs.declared.Item.{Item}
 use Rattle.listing_rules.specs.declared.Item.TheVariants.{Whole, Byte, End}
-use Rattle.listing_rules.specs.Items.{to_of, whole_of, read_of, item_of, count_of}
+use Rattle.listing_rules.specs.Items.{to_of, whole_of, read_of, item_of}
 use Rattle.listing_rules.specs.Listings.{chars_of, line_at}
 use Rattle.listing_rules.proofs.ItemLaws.{whole-none, whole-cut, item-read, item-short, item-second}
-use Rattle.listing_rules.proofs.RowLaws.{whole-at, not-ended}
+use Rattle.listing_rules.proofs.RowLaws.{whole-at}
 use Rattle.listing_rules.proofs.Unlisting.{Spoken, spoken-line, spoken-data, placed-to, bytes_take, no_word}
 
 -- the word of a line: what stands before its first mark

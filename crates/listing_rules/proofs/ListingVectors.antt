@@ -1,7 +1,7 @@
 -- Listings worked out: each from address 1000h.
 -- Assumes nothing.
 use mathlib.Core.Path.{◌≡◌, refl}
-use mathlib.Core.List.{List, [], ◌∷◌}
+use mathlib.Core.List.{[], ◌∷◌}
 use Rattle.ground_rules.specs.Bits.{field_of, bit_of}
 use Rattle.ground_rules.specs.Signs.{extended}
 use Rattle.instruction_rules.specs.Pairs.{pair_of}

@@ -1,6 +1,6 @@
 -- A line read back: its word and its operands, from its characters alone.
 -- Assumes nothing.
-use mathlib.Core.Path.{◌≡◌, refl, sym, ap, ◌∙◌}
+use mathlib.Core.Path.{◌≡◌, refl, ap, ◌∙◌}
 use mathlib.Core.Bool.{Bool, true, false, not, ◌&&◌, ◌||◌}
 use mathlib.Core.List.{List, [], ◌∷◌, ◌++◌, append-nil}
 use mathlib.Core.Logic.{◌⊎◌, inl, inr}
@@ -10,8 +10,8 @@ use lib.Dec.{T, eqb, ltb}
 use lib.ListN.{length, get_or, drop}
 use borrow.Author.Tests.{eqb-true, eqb-false}
 use Rattle.ground_rules.specs.Choice.{pick}
-use Rattle.listing_rules.specs.Characters.{ascii, same_text, hex_glyph, hex_digits, number_text, digit_text}
-use Rattle.listing_rules.specs.Forms.{Operand, data_from, reach_from, target_of, word_bytes, filled, register_name, base_name, mode_text, spelled, following}
+use Rattle.listing_rules.specs.Characters.{same_text, hex_glyph, hex_digits, number_text, digit_text}
+use Rattle.listing_rules.specs.Forms.{Operand, reach_from, target_of, filled, register_name, base_name, mode_text, spelled, following}
 use Rattle.listing_rules.specs.Forms.Operand.{none, register, memory, number, digit}
 use Rattle.listing_rules.specs.declared.Slot.{Slot}
 use Rattle.listing_rules.specs.declared.Slot.TheVariants.{Empty, Name, Place, Number, Target, Digit}

@@ -3,45 +3,41 @@
 use mathlib.Core.Path.{◌≡◌, refl, sym, ap, subst, ◌∙◌}
 use mathlib.Core.Bool.{Bool, true, false, not, ◌&&◌, ◌||◌, false≢true}
 use mathlib.Core.List.{List, [], ◌∷◌, ◌++◌, append_assoc, append-nil}
-use Prim.Native.Nat.{ℕ, zero, suc, ◌+◌, ◌-◌, ◌≤◌, ◌<◌}
+use Prim.Native.Nat.{ℕ, zero, suc, ◌+◌, ◌≤◌, ◌<◌}
 use native.Mathlib.Omega.{arith}
 use lib.Dec.{T, eqb, ltb}
 use lib.ListN.{length, get_or, take, drop, length-take, length-drop, length-append, take-append-drop, get_or-eq_default}
 use lib.Seq.{get_or-take, get_or-drop}
-use borrow.Author.Tests.{eqb-true, eqb-false, eq-eqb, ltb-true, ltb-false}
-use Rattle.ground_rules.specs.Choice.{pick}
-use Rattle.instruction_rules.specs.Pairs.{pair_of, memory_of}
+use borrow.Author.Tests.{eqb-false, eq-eqb, ltb-true, ltb-false}
+use Rattle.instruction_rules.specs.Pairs.{pair_of}
 use Rattle.instruction_rules.specs.declared.Memory.{Memory}
 use Rattle.instruction_rules.specs.declared.Pair.{Pair}
 use Rattle.instruction_rules.specs.declared.Shape.{Shape}
 use Rattle.instruction_rules.specs.declared.Shape.TheVariants.{MovMemory}
-use Rattle.instruction_rules.specs.declared.Decoded.{Decoded}
 use Rattle.instruction_rules.specs.declared.Decoded.TheVariants.{Instruction}
 use Rattle.instruction_rules.specs.declared.Second.TheVariants.{Operand}
-use Rattle.instruction_rules.specs.Reading.{decode_of, second_of}
 use Rattle.instruction_rules.specs.Lengths.{offset_length, length_of}
 use Rattle.instruction_rules.proofs.LengthLaws.{bounded}
-use Rattle.listing_rules.specs.Characters.{ascii, same_text, number_text}
+use Rattle.listing_rules.specs.Characters.{ascii, same_text}
 use Rattle.listing_rules.specs.Mnemonics.{is_listed, mnemonic_of}
 use Rattle.listing_rules.specs.Forms.{slots_of, after_offset, filled, spelled, following}
 use Rattle.listing_rules.specs.Forms.Operand.{none, register, memory, number, digit}
 use Rattle.listing_rules.specs.Forms as Forms
 use Rattle.listing_rules.specs.Lines.{line_with, instruction_line, data_items, data_line}
-use Rattle.listing_rules.specs.declared.Slot.{Slot}
-use Rattle.listing_rules.specs.declared.Slot.TheVariants.{Empty, Place}
+use Rattle.listing_rules.specs.declared.Slot.TheVariants.{Place}
 use Rattle.listing_rules.proofs.LineLaws.{and_left, and_right}
-use Rattle.listing_rules.proofs.SpellingLaws.{is_mark, clean, cut, present, marks, spellings, read_all, Bytes, Legible, legible-byte, Readable, legible, readable, AllReadable, also, cut-marks, read_back, clean_of}
+use Rattle.listing_rules.proofs.SpellingLaws.{is_mark, clean, cut, present, marks, spellings, read_all, Bytes, legible-byte, Readable, legible, readable, AllReadable, also, cut-marks, read_back, clean_of}
 use Rattle.listing_rules.proofs.EntryLaws.{Known, Placed, known}
-use Rattle.listing_rules.specs.Back.{pair_back, operands_of}
+use Rattle.listing_rules.specs.Back.{operands_of}
 use Rattle.listing_rules.specs.declared.Item.{Item}
 use Rattle.listing_rules.specs.declared.Item.TheVariants.{Whole, Byte, End}
-use Rattle.listing_rules.specs.Items.{nowhere, to_of, item_of, count_of}
-use Rattle.listing_rules.specs.Listings.{TextLine, chars_of, line_at, lines_of, all_chars}
+use Rattle.listing_rules.specs.Items.{to_of, item_of, count_of}
+use Rattle.listing_rules.specs.Listings.{chars_of, line_at, lines_of, all_chars}
 use Rattle.listing_rules.proofs.ItemLaws.{mov-length}
 use Rattle.listing_rules.proofs.RowLaws.{WholeAt, whole-at, count-some, count-there}
 use Rattle.listing_rules.proofs.ListLaws.{lines_next, lines_none}
-use Rattle.listing_rules.proofs.Theorems.{Proper, proper-item}
-use Rattle.listing_rules.proofs.BackLaws.{slot_bytes, spread, fill, same-slots, Follows, covered, two-more, Chain, all-covered, listed, chained, pair-bytes, second_pair, second-fields, second-memory, second-placed, is_move, other-shape, to_none, Pairs, one, two, pairs}
+use Rattle.listing_rules.proofs.Theorems.{proper-item}
+use Rattle.listing_rules.proofs.BackLaws.{slot_bytes, spread, fill, same-slots, Follows, covered, two-more, all-covered, listed, chained, pair-bytes, second_pair, second-fields, second-placed, other-shape, to_none, Pairs, one, two, pairs}
 
 -- a line as a word and operands that can be read
 pub record Spoken (chars word : List ℕ) (os : List Forms.Operand) : Type 0 where

@@ -1,5 +1,5 @@
 -- The operands of the instructions: which places a shape has for them, destination first; what the bytes put there; how that is spelled (§13.1).
-use Rattle.std.specs.Prelude.{Bool, true, false, List, [], ◌∷◌, ◌++◌, ℕ, ◌+◌, ◌*◌, ◌/◌, ◌%◌, eqb, get_or}
+use Rattle.std.specs.Prelude.{Bool, true, false, List, [], ◌∷◌, ◌++◌, ℕ, ◌+◌, ◌%◌, eqb, get_or}
 use Rattle.ground_rules.specs.Choice.{pick}
 use Rattle.ground_rules.specs.Bytes.{word_of, low_byte, high_byte}
 use Rattle.ground_rules.specs.Signs.{extended}

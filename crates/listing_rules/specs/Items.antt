@@ -1,5 +1,5 @@
 -- What stands at the head of some bytes: a whole instruction, a byte at which none starts, or nothing (§13.3).
-use Rattle.std.specs.Prelude.{Bool, false, List, ℕ, ◌+◌, eqb, ltb, leb, length, get_or, drop}
+use Rattle.std.specs.Prelude.{false, List, ℕ, ◌+◌, eqb, ltb, length, get_or, drop}
 use Rattle.ground_rules.specs.Choice.{pick}
 use Rattle.instruction_rules.specs.declared.Memory.{Memory}
 use Rattle.instruction_rules.specs.declared.Shape.{Shape}

@@ -1,7 +1,6 @@
 -- The words of the instructions: the stem of the opcode, L in front where the displacement has two bytes, B behind where the operand is a byte, and I for an immediate (§13.2).
 use Rattle.std.specs.Prelude.{Bool, true, false, List, [], ◌++◌, ℕ, eqb}
 use Rattle.ground_rules.specs.Choice.{pick}
-use Rattle.instruction_rules.specs.declared.Memory.{Memory}
 use Rattle.instruction_rules.specs.declared.Work.{Work}
 use Rattle.instruction_rules.specs.declared.Single.{Single}
 use Rattle.instruction_rules.specs.declared.Shape.{Shape}

@@ -1,9 +1,11 @@
 // Types of the rules of the listing.
+#![tactic(auto)]
+
 use instruction_rules::{Memory, Shape};
 
 // A place for an operand: none, a register, memory and where its offset byte lies, a number or a jump's target and where its
 // bytes lie and whether there are two, a bit or a width.
-#[derive(Drop)]
+#[derive(Clone, Copy)]
 pub enum Slot {
     Empty,
     Name(u32),
@@ -14,7 +16,7 @@ pub enum Slot {
 }
 
 // The places of a line.
-#[derive(Drop)]
+#[derive(Clone, Copy)]
 pub struct Slots {
     pub first: Slot,
     pub second: Slot,
@@ -23,7 +25,7 @@ pub struct Slots {
 
 // What bytes begin with: a whole instruction with the operand of MOV M,M's second pair and its length, a byte at which none
 // starts, or nothing.
-#[derive(Drop)]
+#[derive(Clone, Copy)]
 pub enum Item {
     Whole {
         shape: Shape,

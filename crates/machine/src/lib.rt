@@ -1,5 +1,6 @@
 // The machine's registers: two channels, the control block's address, the channel that stepped last and what the board
 // set up, all by value.
+#![tactic(auto)]
 
 // The fields of PSW.
 pub mod psw;

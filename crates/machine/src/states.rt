@@ -202,7 +202,7 @@ pub fn number(second: bool) -> u32
 // The refusal of what a call is given: 11 for a buffer past its limit, 10 for a state that is not sound, 13 for one that
 // is not powered up, 14 for one whose fields are not those of CC, else 0.
 pub fn given_number(s: State, sys: &[u8], io: &[u8]) -> u32
-    ensures { result ≡ given_number s (lent sys.entry io.entry) }
+    ensures { result ≡ given_number s (lent sys.now io.now) }
 {
     if !memory::within_limits(sys, io) {
         return 11;

@@ -1,5 +1,7 @@
 // System and I/O memory as the caller lends them, two byte buffers of any length: every read and store has a meaning,
 // also beyond the lent end.
+#![tactic(auto)]
+
 ghost use Rattle.std.specs.Prelude.{◌≡◌, ◌+◌, leb, length, get_or, set};
 ghost use Rattle.ground_rules.specs.Buffers.{lent, index_of, lent_at, touchable_at, byte_at, store_byte, within_limits};
 ghost use Rattle.ground_rules.specs.Choice.{pick};
@@ -48,14 +50,14 @@ fn write(buffer: &mut [u8], at: usize, v: u8)
 
 // Whether neither buffer is longer than its limit.
 pub fn within_limits(sys: &[u8], io: &[u8]) -> bool
-    ensures { result ≡ within_limits (lent sys.entry io.entry) }
+    ensures { result ≡ within_limits (lent sys.now io.now) }
 {
     (sys.len() <= 1048576) & (io.len() <= 65536)
 }
 
 // Whether the byte at an address is lent.
 pub fn lent(sys: &[u8], io: &[u8], tag: bool, address: u32) -> bool
-    ensures { result ≡ lent_at (lent sys.entry io.entry) tag address }
+    ensures { result ≡ lent_at (lent sys.now io.now) tag address }
 {
     let at = index(tag, address);
     if tag { at < io.len() } else { at < sys.len() }
@@ -75,7 +77,7 @@ fn reach(space: &[u8], most: usize) -> usize
 
 // Whether `count` bytes in a row are lent, wherever the addresses wrap.
 pub fn span_lent(sys: &[u8], io: &[u8], tag: bool, address: u32, count: u32) -> bool
-    ensures { result ≡ all_lent (lent sys.entry io.entry) (span tag address count) }
+    ensures { result ≡ all_lent (lent sys.now io.now) (span tag address count) }
 {
     if count == 0 {
         return true;
@@ -90,7 +92,7 @@ pub fn span_lent(sys: &[u8], io: &[u8], tag: bool, address: u32, count: u32) -> 
 
 // Whether a call may touch the byte at an address: in I/O space always, in system space where it is lent.
 pub fn touchable(sys: &[u8], io: &[u8], tag: bool, address: u32) -> bool
-    ensures { result ≡ touchable_at (lent sys.entry io.entry) tag address }
+    ensures { result ≡ touchable_at (lent sys.now io.now) tag address }
 {
     if tag {
         return true;
@@ -100,7 +102,7 @@ pub fn touchable(sys: &[u8], io: &[u8], tag: bool, address: u32) -> bool
 
 // Whether a call may touch `count` bytes in a row.
 pub fn span_touchable(sys: &[u8], io: &[u8], tag: bool, address: u32, count: u32) -> bool
-    ensures { result ≡ all_touchable (lent sys.entry io.entry) (span tag address count) }
+    ensures { result ≡ all_touchable (lent sys.now io.now) (span tag address count) }
 {
     if tag {
         return true;
@@ -110,7 +112,7 @@ pub fn span_touchable(sys: &[u8], io: &[u8], tag: bool, address: u32, count: u32
 
 // The byte at an address; FFh from an empty slot of I/O space.
 pub fn byte(sys: &[u8], io: &[u8], tag: bool, address: u32) -> u8
-    ensures { result ≡ byte_at (lent sys.entry io.entry) tag address }
+    ensures { result ≡ byte_at (lent sys.now io.now) tag address }
 {
     let at = index(tag, address);
     if tag {
@@ -122,7 +124,7 @@ pub fn byte(sys: &[u8], io: &[u8], tag: bool, address: u32) -> u8
 
 // The word at an address.
 pub fn word(sys: &[u8], io: &[u8], tag: bool, address: u32) -> u16
-    ensures { result ≡ word_at (lent sys.entry io.entry) tag address }
+    ensures { result ≡ word_at (lent sys.now io.now) tag address }
 {
     let low = byte(sys, io, tag, address);
     let high = byte(sys, io, tag, words::sum20(address, 1));
@@ -131,7 +133,7 @@ pub fn word(sys: &[u8], io: &[u8], tag: bool, address: u32) -> u16
 
 // The address that the doubleword pointer at an address gives.
 pub fn doubleword(sys: &[u8], io: &[u8], tag: bool, address: u32) -> u32
-    ensures { result ≡ doubleword_at (lent sys.entry io.entry) tag address }
+    ensures { result ≡ doubleword_at (lent sys.now io.now) tag address }
 {
     let offset = word(sys, io, tag, address);
     let segment = word(sys, io, tag, words::sum20(address, 2));
@@ -140,7 +142,7 @@ pub fn doubleword(sys: &[u8], io: &[u8], tag: bool, address: u32) -> u32
 
 // The pointer that the three bytes at an address store.
 pub fn stored_pointer(sys: &[u8], io: &[u8], tag: bool, address: u32) -> Pointer
-    ensures { result ≡ pointer_at (lent sys.entry io.entry) tag address }
+    ensures { result ≡ pointer_at (lent sys.now io.now) tag address }
 {
     let low = byte(sys, io, tag, address);
     let middle = byte(sys, io, tag, words::sum20(address, 1));
@@ -153,7 +155,7 @@ pub fn stored_pointer(sys: &[u8], io: &[u8], tag: bool, address: u32) -> Pointer
 
 // A byte stored at an address.
 pub fn store_byte(sys: &mut [u8], io: &mut [u8], tag: bool, address: u32, v: u8)
-    ensures { lent sys.exit io.exit ≡ store_byte (lent sys.entry io.entry) tag address v }
+    ensures { lent sys.new io.new ≡ store_byte (lent sys.old io.old) tag address v }
 {
     let at = index(tag, address);
     if tag {
@@ -165,7 +167,7 @@ pub fn store_byte(sys: &mut [u8], io: &mut [u8], tag: bool, address: u32, v: u8)
 
 // A word stored at an address.
 pub fn store_word(sys: &mut [u8], io: &mut [u8], tag: bool, address: u32, v: u16)
-    ensures { lent sys.exit io.exit ≡ store_word (lent sys.entry io.entry) tag address v }
+    ensures { lent sys.new io.new ≡ store_word (lent sys.old io.old) tag address v }
 {
     store_byte(sys, io, tag, address, words::low_byte(v));
     store_byte(sys, io, tag, words::sum20(address, 1), words::high_byte(v));
@@ -180,7 +182,7 @@ pub fn store_doubleword(
     offset: u16,
     segment: u16,
 )
-    ensures { lent sys.exit io.exit ≡ store_doubleword (lent sys.entry io.entry) tag address offset segment }
+    ensures { lent sys.new io.new ≡ store_doubleword (lent sys.old io.old) tag address offset segment }
 {
     store_word(sys, io, tag, address, offset);
     store_word(sys, io, tag, words::sum20(address, 2), segment);
@@ -188,7 +190,7 @@ pub fn store_doubleword(
 
 // A pointer stored in three bytes at an address.
 pub fn store_pointer(sys: &mut [u8], io: &mut [u8], tag: bool, address: u32, p: Pointer)
-    ensures { lent sys.exit io.exit ≡ store_pointer (lent sys.entry io.entry) tag address p }
+    ensures { lent sys.new io.new ≡ store_pointer (lent sys.old io.old) tag address p }
 {
     store_byte(sys, io, tag, address, words::stored_low(p.address));
     store_byte(

@@ -1,5 +1,6 @@
 // The notation of a listing: the line of an instruction, by its shape and the bytes behind its pair, and the line of bytes
 // that are none.
+#![tactic(auto)]
 
 // Characters, several in a number.
 mod pieces;

@@ -8,7 +8,7 @@ use crate::{forms, mnemonics, pieces};
 use instruction_rules::{Memory, Shape};
 
 // A line: its characters, the line feed too, and how many there are.
-#[derive(Drop)]
+#[derive(Clone, Copy)]
 pub struct Line {
     pub chars: [u8; 28],
     pub len: usize,

@@ -4,7 +4,7 @@ ghost use Rattle.listing_rules.specs.Characters.{hex_glyph, number_text, digit_t
 ghost use Rattle.notation.specs.Writing.{held_in, held_in4, Fits, Wrote};
 
 // Four times up to eight characters, to be written one after the other.
-#[derive(Drop)]
+#[derive(Clone, Copy)]
 pub struct Pieces(pub u64, pub u64, pub u64, pub u64);
 
 // The digit, a capital where it is over 9.

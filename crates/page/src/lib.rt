@@ -1,4 +1,6 @@
 // Text put into a lent buffer behind the text that it has: characters, numbers, and the letter of a kind of step. What has no room is left out.
+#![tactic(auto)]
+
 ghost use Rattle.std.specs.Prelude.{◌≡◌, ◌≤◌, ◌<◌, length, drop};
 ghost use Rattle.page.specs.Pages.{page, Behind};
 ghost use Rattle.page.specs.Numbers as Numbers;

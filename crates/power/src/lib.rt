@@ -1,4 +1,6 @@
 // Power-up: the processor reads in system memory what its board set up, whole or not at all.
+#![tactic(auto)]
+
 ghost use Rattle.std.specs.Prelude.{◌≡◌};
 ghost use Rattle.ground_rules.specs.Buffers.{lent};
 ghost use Rattle.ground_rules.specs.Places.{all_touchable};
@@ -15,21 +17,21 @@ pub const CONFIGURATION_AT: u32 = 0xFFFF8;
 
 // The configuration block.
 pub fn configuration(sys: &[u8], io: &[u8]) -> u32
-    ensures { result ≡ configuration_of (lent sys.entry io.entry) }
+    ensures { result ≡ configuration_of (lent sys.now io.now) }
 {
     memory::doubleword(sys, io, false, CONFIGURATION_AT)
 }
 
 // The control block.
 pub fn control(sys: &[u8], io: &[u8]) -> u32
-    ensures { result ≡ control_of (lent sys.entry io.entry) }
+    ensures { result ≡ control_of (lent sys.now io.now) }
 {
     memory::doubleword(sys, io, false, words::sum20(configuration(sys, io), 2))
 }
 
 // What the board set up.
 fn read_board(sys: &[u8], io: &[u8]) -> Board
-    ensures { result ≡ board_of (lent sys.entry io.entry) }
+    ensures { result ≡ board_of (lent sys.now io.now) }
 {
     let sysbus = memory::byte(sys, io, false, SYSBUS_AT) as u32;
     let soc = memory::byte(sys, io, false, configuration(sys, io)) as u32;
@@ -43,7 +45,7 @@ fn read_board(sys: &[u8], io: &[u8]) -> Board
 
 // Whether the eleven bytes are lent.
 fn board_lent(sys: &[u8], io: &[u8]) -> bool
-    ensures { result ≡ all_touchable (lent sys.entry io.entry) (power_places (lent sys.entry io.entry)) }
+    ensures { result ≡ all_touchable (lent sys.now io.now) (power_places (lent sys.now io.now)) }
 {
     let block = configuration(sys, io);
     let busy = machine::states::busy(control(sys, io));
@@ -56,7 +58,7 @@ fn board_lent(sys: &[u8], io: &[u8]) -> bool
 
 // The refusal of what a power-up is given: 11, then 2, else 0.
 fn power_number(sys: &[u8], io: &[u8]) -> u32
-    ensures { result ≡ power_number (lent sys.entry io.entry) }
+    ensures { result ≡ power_number (lent sys.now io.now) }
 {
     if !memory::within_limits(sys, io) {
         return 11;
@@ -66,8 +68,8 @@ fn power_number(sys: &[u8], io: &[u8]) -> u32
 
 // Powers the processor up: the fresh state of the CP found, with what the board set up, and BUSY of channel 1 cleared.
 pub fn power_up(s: State, sys: &mut [u8], io: &mut [u8]) -> Answer
-    ensures left { outcome result.number result.state (lent sys.exit io.exit) ≡ power_up_of s (lent sys.entry io.entry) }
-    ensures count { result.count ≡ power_count (lent sys.entry io.entry) }
+    ensures left { outcome result.number result.state (lent sys.new io.new) ≡ power_up_of s (lent sys.old io.old) }
+    ensures count { result.count ≡ power_count (lent sys.old io.old) }
 {
     let number = power_number(sys, io);
     if number != 0 {

@@ -1,4 +1,6 @@
 // Firmware from Intel hexadecimal object files: a text is read into lent system memory, whole or not at all.
+#![tactic(auto)]
+
 ghost use Rattle.std.specs.Prelude.{true, false, [], ◌≡◌, ◌+◌, ◌*◌, ◌%◌, ◌<◌, ◌≤◌, length, get_or, drop};
 ghost use Rattle.ground_rules.specs.Buffers.{buffers, store_byte};
 ghost use Rattle.ground_rules.specs.Places.{all_lent};
@@ -8,7 +10,7 @@ ghost use Rattle.prom_rules.specs.Load.{loading, store_all, text_file, load_of};
 ghost use Rattle.prom.specs.Parts.{first_line, digit_run, ends_here, end_length, Fielded, places_from, reach_of, found_first, judged_of};
 
 // What a call answers: its number, the start address, and the line that decided.
-#[derive(Drop)]
+#[derive(Clone, Copy)]
 pub struct Loaded {
     pub number: u32,
     pub start: u32,
@@ -16,14 +18,14 @@ pub struct Loaded {
 }
 
 // A run of digits: how many, and the sum of the bytes that they write, mod 256.
-#[derive(Drop)]
+#[derive(Clone, Copy)]
 struct Digits {
     count: usize,
     sum: u32,
 }
 
 // The fields of a good record, and how far the next line is.
-#[derive(Drop)]
+#[derive(Clone, Copy)]
 struct RecordFields {
     size: u32,
     offset: u32,
@@ -32,7 +34,7 @@ struct RecordFields {
 }
 
 // A file judged: its number, line and start address, and the first line that reaches beyond memory.
-#[derive(Drop)]
+#[derive(Clone, Copy)]
 struct Judged {
     number: u32,
     line: u32,

@@ -14,7 +14,7 @@ use Rattle.ground_rules.specs.Buffers.{buffers, space_of, limit_of, index_of, le
 use Rattle.ground_rules.proofs.ChoiceLaws.{apart, and-true}
 use Rattle.ground_rules.specs.Choice.{pick}
 use Rattle.prom_rules.specs.Conditions.{Decides, NoEnd, Ends, OverLong, FirstBeyond, AllWithin}
-use Rattle.prom_rules.specs.File.{FileStore, File, file, next_line, segment_after, start_after, stores_from, stores_of, file_of}
+use Rattle.prom_rules.specs.File.{FileStore, File, next_line, segment_after, start_after, stores_from, stores_of, file_of}
 use Rattle.prom_rules.specs.Load.{Loading, beyond_line, text_file, load_of}
 use Rattle.prom_rules.specs.Records.{record_of, address_field, type_of, data_bytes, line_refusal}
 use Rattle.prom_rules.specs.Text.{hex_lines}

@@ -150,8 +150,8 @@ register_in ControlUsed = 0
 abbrev is_pointer : ℕ → Bool
 is_pointer r = ltb r 3 || eqb r 4
 
-is_pointer : (r : ℕ) → is_pointer r ≡ true → IsPointer r
-is_pointer r h = go (ℕ_discrete r 0) (ℕ_discrete r 1) (ℕ_discrete r 2) (ℕ_discrete r 4)
+is-pointer : (r : ℕ) → is_pointer r ≡ true → IsPointer r
+is-pointer r h = go (ℕ_discrete r 0) (ℕ_discrete r 1) (ℕ_discrete r 2) (ℕ_discrete r 4)
   where
     go : Dec (r ≡ 0) → Dec (r ≡ 1) → Dec (r ≡ 2) → Dec (r ≡ 4) → IsPointer r
     go (yes e) b c d = inl e
@@ -199,7 +199,7 @@ executes-pointer : {k : StepCall} {shape : Shape} → Executes k shape → IsPoi
 unfolding decoded_at decode_of
 executes-pointer {k} {shape} x =
     let pair = pair_of (byte_here k.memory (channel_on k).tp) (byte_here k.memory (onward (channel_on k).tp 1)) in
-    is_pointer (movp_register shape) (subst (λ (d : Decoded). is_pointer (register_in d) ≡ true) x.reads (looked-up table pair (table-pointing pair)))
+    is-pointer (movp_register shape) (subst (λ (d : Decoded). is_pointer (register_in d) ≡ true) x.reads (looked-up table pair (table-pointing pair)))
 
 -- ---- the pointer registers of a sound channel
 

@@ -10,7 +10,6 @@ use Rattle.instruction_rules.specs.{declared.Memory.Memory, declared.Pair.Pair, 
 use Rattle.instruction_rules.proofs.LengthLaws.{bounded}
 use Rattle.listing_rules.specs.{declared.Slot.Slot, declared.Slot.TheVariants.Empty, declared.Slot.TheVariants.Name, declared.Slot.TheVariants.Place, declared.Slot.TheVariants.Number, declared.Slot.TheVariants.Target, declared.Slot.TheVariants.Digit, Characters.same_text, Mnemonics.is_listed, Mnemonics.mnemonic_of, Forms.after_offset, Forms.slots_of, Forms.filled, Forms.following, Lines.instruction_line, Entries.OperandKind, Entries.Entry, Entries.entries}
 use Rattle.listing_rules.specs.{Items.to_of, Back.pair_from, Back.pair_back, Back.operands_of}
-use Rattle.listing_rules.specs.Forms as Forms
 use Rattle.listing_rules.proofs.{SpellingLaws.present, SpellingLaws.marks, SpellingLaws.Fair, SpellingLaws.Bytes, EntryLaws.Known, EntryLaws.known, RowLaws.WholeAt, BackLaws.slot_bytes, BackLaws.spread, BackLaws.fill, BackLaws.all-covered, BackLaws.listed, BackLaws.chained, BackLaws.second_pair, BackLaws.second-fields, BackLaws.is_move, BackLaws.other-shape, BackLaws.Pairs, BackLaws.pairs, Unlisting.spoken-line, Unlisting.spoken-free, Unlisting.free}
 use Rattle.listing_rules.proofs.{Unlisting.first-pair, Unlisting.mov-covered, Unlisting.placed-to}
 use Rattle.assembly_rules.specs.{Sums.Label, Operands.Written, Operands.Chosen, Operands.Chosen.taken, Operands.Chosen.untaken, Operands.is_memory_kind, Operands.operands_from, Operands.takes, Operands.takes_all, Operands.entry_in, Operands.all_shallow, Assembly.Said, Assembly.said_by, Statements.Statement.instruction, Statements.word_statement, Statements.statement_of, Statements.kind_size, Statements.memories_in, Statements.statement_size, Statements.operand_worth}

@@ -15,7 +15,7 @@ use Rattle.assembly_rules.specs.{Text.capital_of, Text.is_digit, Text.is_capital
 use Rattle.assembly_rules.specs.{Operands.is_memory_kind, Operands.takes_register, Operands.takes, Operands.is_shallow, Statements.is_byte, Statements.reach_to, Statements.is_near, Statements.may_stand, Statements.operand_worth, Statements.is_digit_kind, Statements.listed_as, Statements.written_offset, Statements.number_bytes}
 use Rattle.assembly_rules.proofs.{ScanLaws.all_fail, WritingLaws.both_left, WritingLaws.both_right}
 use Rattle.promises_codes.proofs.CodeNumbers.{all_below, of-all}
-use Rattle.promises_assembly.proofs.{Texts.Constantly, Texts.byte-constant, Texts.word-constant, Texts.digit-constant, Texts.opens, Texts.Voiced, Rows.draw, Rows.Alike, Rows.Alike.registers, Rows.Alike.memories, Rows.Alike.numbers, Rows.Alike.digits, Rows.same_kind, Rows.same_kind, Rows.agrees}
+use Rattle.promises_assembly.proofs.{Texts.Constantly, Texts.byte-constant, Texts.word-constant, Texts.digit-constant, Texts.opens, Texts.Voiced, Rows.draw, Rows.Alike, Rows.Alike.registers, Rows.Alike.memories, Rows.Alike.numbers, Rows.Alike.digits, Rows.same_kind, Rows.same-kind, Rows.agrees}
 
 -- an operand that is heard as it is meant: its tokens stay together and stand for what is written
 pub record Heard (o : Operand) (w : Written) : Type 0 where
@@ -170,31 +170,31 @@ module _ (labels : List Label) (bytes : List ℕ) (end E : ℕ) where
   unfolding Bytes Fair agrees filled draw present following spelled slot_bytes may_stand is_byte target_of
   meant hb ends k Empty f h = absurd (false≢true h)
   meant hb ends k (Name r) f h = (Written.register r, named k r f h)
-  meant hb ends k (Place m at) f h = rw (same_kind k 'M h) (Written.memory m.mm m.aa (offset_tokens m.aa (get_or bytes at 0)), placed m at hb f.0 f.1)
+  meant hb ends k (Place m at) f h = rw (same-kind k 'M h) (Written.memory m.mm m.aa (offset_tokens m.aa (get_or bytes at 0)), placed m at hb f.0 f.1)
   meant hb ends k (Number at true) f h =
       let l = get_or bytes at 0 in
       let u = get_or bytes (at + 1) 0 in
-      rw (same_kind k 'word h) (valued 'word (Number at true) (l + u * 256) (λ os. refl) (λ m. refl) refl (word-constant l u (hb at) (hb (at + 1))) refl (halves l u (hb at) (hb (at + 1))) (λ os ps l. numbers _ _ l))
+      rw (same-kind k 'word h) (valued 'word (Number at true) (l + u * 256) (λ os. refl) (λ m. refl) refl (word-constant l u (hb at) (hb (at + 1))) refl (halves l u (hb at) (hb (at + 1))) (λ os ps l. numbers _ _ l))
   meant hb ends k (Number at false) f h =
       let b = get_or bytes at 0 in
       let low : b % 256 ≡ b = omega (arith, hb at) in
-      rw (same_kind k 'byte h) (valued 'byte (Number at false) b (λ os. refl) (λ m. refl) refl (byte-constant b (hb at)) (rw (lt-ltb b 256 (hb at))) (rw low) (λ os ps l. numbers _ _ l))
+      rw (same-kind k 'byte h) (valued 'byte (Number at false) b (λ os. refl) (λ m. refl) refl (byte-constant b (hb at)) (rw (lt-ltb b 256 (hb at))) (rw low) (λ os ps l. numbers _ _ l))
   meant hb ends k (Target at true) f h =
       let l = get_or bytes at 0 in
       let u = get_or bytes (at + 1) 0 in
       let x = extended 16 (l + u * 256) in
       let reach = reach-back E end x ends ∙ long-reach (l + u * 256) (omega (arith, hb at, hb (at + 1))) in
-      rw (same_kind k 'long h) (valued 'long (Target at true) (target_of end x) (λ os. refl) (λ m. refl) refl (target-constant end x) refl (rw reach (halves l u (hb at) (hb (at + 1)))) (λ os ps l. numbers _ _ l))
+      rw (same-kind k 'long h) (valued 'long (Target at true) (target_of end x) (λ os. refl) (λ m. refl) refl (target-constant end x) refl (rw reach (halves l u (hb at) (hb (at + 1)))) (λ os ps l. numbers _ _ l))
   meant hb ends k (Target at false) f h =
       let b = get_or bytes at 0 in
       let x = extended 8 b in
       let reach = reach-back E end x ends in
       let s = short-reach b (hb at) in
-      rw (same_kind k 'short h) (valued 'short (Target at false) (target_of end x) (λ os. refl) (λ m. refl) refl (target-constant end x) (rw reach s.0) (rw (reach, s.1)) (λ os ps l. numbers _ _ l))
+      rw (same-kind k 'short h) (valued 'short (Target at false) (target_of end x) (λ os. refl) (λ m. refl) refl (target-constant end x) (rw reach s.0) (rw (reach, s.1)) (λ os ps l. numbers _ _ l))
   meant hb ends k (Digit n) f h = go (ltb n 8) refl h
     where
       go : (b : Bool) → ltb n 8 ≡ b → pick b (same_kind k 'bit) (same_kind k 'width && (eqb n 8 || eqb n 16)) ≡ true → (w : Written) × Meant k (Digit n) w
-      go true e t = rw (same_kind k 'bit t) (valued 'bit (Digit n) n (λ os. refl) (λ m. refl) refl (digit-constant n (rw e)) e refl (λ os ps l. digits n l))
+      go true e t = rw (same-kind k 'bit t) (valued 'bit (Digit n) n (λ os. refl) (λ m. refl) refl (digit-constant n (rw e)) e refl (λ os ps l. digits n l))
       go false e t =
           let wide = both_right (same_kind k 'width) _ t in
-          rw (same_kind k 'width (both_left (same_kind k 'width) _ t)) (valued 'width (Digit n) n (λ os. refl) (λ m. refl) refl (digit-constant n (rw (e, wide))) wide refl (λ os ps l. digits n l))
+          rw (same-kind k 'width (both_left (same_kind k 'width) _ t)) (valued 'width (Digit n) n (λ os. refl) (λ m. refl) refl (digit-constant n (rw (e, wide))) wide refl (λ os ps l. digits n l))

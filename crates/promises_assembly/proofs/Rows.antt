@@ -96,9 +96,9 @@ kind-back 'long = refl
 unfoldable pub same_kind : OperandKind → OperandKind → Bool
 same_kind k l = eqb (kind_number k) (kind_number l)
 
-pub same_kind : (k l : OperandKind) → same_kind k l ≡ true → k ≡ l
+pub same-kind : (k l : OperandKind) → same_kind k l ≡ true → k ≡ l
 unfolding same_kind
-same_kind k l h = sym (kind-back k) ∙ ap kind_at (eqb-true (kind_number k) (kind_number l) h) ∙ kind-back l
+same-kind k l h = sym (kind-back k) ∙ ap kind_at (eqb-true (kind_number k) (kind_number l) h) ∙ kind-back l
 
 -- whether a place is of a kind: a register that it takes, memory, a number of its width, a bit or a width
 unfoldable pub agrees : OperandKind → Slot → Bool

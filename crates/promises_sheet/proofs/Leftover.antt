@@ -132,8 +132,8 @@ module _ (c : Channel) (m : Buffers) (after : Channel) (m' : Buffers) (l : Trans
     first_code : code_of_end c m ≡ code_by true true
     first_code = ap₂ code_by (either (meets_in c m (first_byte c m)) (singly c m && meets_in c m (second_byte c m)) first-meets) first_two
 
-    first_ends : eqb (code_by true true) 0 ≡ false
-    first_ends = code-left (max_of c m match_code (count_code true)) (pick single_on 1 0) (code-left match_code (count_code true) first_on)
+    first-ends : eqb (code_by true true) 0 ≡ false
+    first-ends = code-left (max_of c m match_code (count_code true)) (pick single_on 1 0) (code-left match_code (count_code true) first_on)
 
     first-offset : offset_in (code_by true true) ≡ max_of c m (offset_in match_code) (pick (eqb (bc_less c 2) 0) (offset_in (field c.cc 3 2)) 0)
     first-offset =
@@ -153,10 +153,10 @@ module _ (c : Channel) (m : Buffers) (after : Channel) (m' : Buffers) (l : Trans
       stored = l.stored ∙ ap (λ (x : Bool). pick x
           (store_byte (store_byte m (into_pointer c m).tag (into_pointer c m).address (first_byte c m)) (into_pointer c m).tag (into_second c m) (second_byte c m))
           (store_byte m (into_pointer c m).tag (into_pointer c m).address (first_byte c m))) first_one;
-      over = over_by (ap (λ (n : ℕ). eqb n 0) first_code ∙ first_ends);
+      over = over_by (ap (λ (n : ℕ). eqb n 0) first_code ∙ first-ends);
       tp = l.tp
           ∙ ap (λ (n : ℕ). pick (eqb n 0) c.tp (pointer_on c.tp (offset_in n))) first_code
-          ∙ ap (λ (x : Bool). pick x c.tp (pointer_on c.tp (offset_in (code_by true true)))) first_ends
+          ∙ ap (λ (x : Bool). pick x c.tp (pointer_on c.tp (offset_in (code_by true true)))) first-ends
           ∙ ap (pointer_on c.tp) first-offset;
     }
 

@@ -1,1 +1,2 @@
 // Definitions and theorems only: the sheet of the machine.
+#![tactic(auto)]

@@ -22,7 +22,7 @@ use Rattle.attention_rules.specs.Power.{power_stages, touched_by_power, power_up
 use Rattle.attention_rules.specs.Touched.{read_by, stored_by, others, order_stages, touched_by_order}
 use Rattle.attention_rules.specs.declared.Command.{Command}
 use Rattle.attention_rules.specs.declared.Command.TheVariants.{Update, StartLocal, StartSystem, Suspend, Resume, Halt, Unknown}
-use Rattle.instruction_rules.proofs.CountLaws.{deed-most, length_from}
+use Rattle.instruction_rules.proofs.CountLaws.{deed-most, length-from}
 use Rattle.instruction_rules.specs.Changes.{places_of}
 use Rattle.instruction_rules.specs.Execute.{decoded_at, deed_from, later_from, stages_from, instruction_stages, touched_by_instruction}
 use Rattle.instruction_rules.specs.Operands.{bytes_at}
@@ -123,7 +123,7 @@ module _ (c : Channel) (m : Buffers) where
           )
 
       go : (d : Decoded) → length (stages_places (stages_from d m c busy)) ≤ 11
-      go (Instruction s) = omega (arith, parts (Instruction s), deed-most m c busy (Instruction s), (length_from s c).0)
+      go (Instruction s) = omega (arith, parts (Instruction s), deed-most m c busy (Instruction s), (length-from s c).0)
       go NoInstruction = lit≤ tt
       go ControlUsed = lit≤ tt
 

@@ -15,13 +15,13 @@ use Rattle.run_call.proofs.iop89_board.Reads as board-reads
 -- both memories, CP, the channel, the lines and the limit
 pub call-told : (κs : Lfts 2) (a : Dens κs call-kinds.ps) (r : (res_t call-kinds.r κs).Denot) (e : AtExit (ended_of 2 call-kinds.ps call-kinds.r) κs)
     → call-reads.Post κs a r e
-    → let run = run_of (lent a.0 a.1.0) a.1.1.0 a.1.1.1.0 a.1.1.1.1.0 a.1.1.1.1.1.0 in
-    called r (lent e.0 e.1.0) ≡ called (answer_of run) run.memory
+    → let run = run_of (lent a.0.now a.1.0.now) a.1.1.0 a.1.1.1.0 a.1.1.1.1.0 a.1.1.1.1.1.0 in
+    called r (lent e.0.now e.1.0.now) ≡ called (answer_of run) run.memory
 call-told κs a r e p = p
 
 -- both memories, the channel, the lines and the limit
 pub board-told : (κs : Lfts 2) (a : Dens κs board-kinds.ps) (r : (res_t board-kinds.r κs).Denot) (e : AtExit (ended_of 2 board-kinds.ps board-kinds.r) κs)
     → board-reads.Post κs a r e
-    → let run = board_run_of (lent a.0 a.1.0) a.1.1.0 a.1.1.1.0 a.1.1.1.1.0 in
-    called r (lent e.0 e.1.0) ≡ called (answer_of run) run.memory
+    → let run = board_run_of (lent a.0.now a.1.0.now) a.1.1.0 a.1.1.1.0 a.1.1.1.1.0 in
+    called r (lent e.0.now e.1.0.now) ≡ called (answer_of run) run.memory
 board-told κs a r e p = p

@@ -1,4 +1,6 @@
 // Both runs for C in one object, so that the code which they share stands in it once.
+#![tactic(auto)]
+
 ghost use Rattle.std.specs.Prelude.{◌≡◌};
 ghost use Rattle.ground_rules.specs.Buffers.{lent};
 ghost use Rattle.run_rules.specs.Run.{run_of, answer_of, called};
@@ -14,7 +16,7 @@ pub extern "C" fn iop89_run(
     lines: u32,
     limit: u32,
 ) -> u32
-    ensures { called result (lent sys.exit io.exit) ≡ called (answer_of (run_of (lent sys.entry io.entry) cp channel lines limit)) (run_of (lent sys.entry io.entry) cp channel lines limit).memory }
+    ensures { called result (lent sys.new io.new) ≡ called (answer_of (run_of (lent sys.old io.old) cp channel lines limit)) (run_of (lent sys.old io.old) cp channel lines limit).memory }
 {
     let r = panel::run(sys, io, cp, channel, lines, limit);
     r.number % 65536 * 65536 + r.steps % 65536
@@ -29,7 +31,7 @@ pub extern "C" fn iop89_board(
     lines: u32,
     limit: u32,
 ) -> u32
-    ensures { called result (lent sys.exit io.exit) ≡ called (answer_of (board_run_of (lent sys.entry io.entry) channel lines limit)) (board_run_of (lent sys.entry io.entry) channel lines limit).memory }
+    ensures { called result (lent sys.new io.new) ≡ called (answer_of (board_run_of (lent sys.old io.old) channel lines limit)) (board_run_of (lent sys.old io.old) channel lines limit).memory }
 {
     let r = panel::boards::board_run(sys, io, channel, lines, limit);
     r.number % 65536 * 65536 + r.steps % 65536

@@ -10,7 +10,7 @@ use crate::counting;
 use ground_rules::Channel;
 
 // Whether a channel waits for its DRQ, and how many bytes its next transfer step reads.
-#[derive(Drop)]
+#[derive(Clone, Copy)]
 pub(crate) struct Found {
     pub(crate) waits: bool,
     pub(crate) reads: u32,

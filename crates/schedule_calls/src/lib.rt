@@ -49,7 +49,7 @@ fn begin(state: &mut [u8], report: &mut [u64], known: bool) -> u32
 // A row that is an attention to a channel.
 fn attend(state: &mut [u8], channel: u32, sys: &mut [u8], io: &mut [u8], report: &mut [u64])
     requires { StateBytes state.old }
-    ensures { RowRun (attention_row channel) (standing state.old (lent sys.entry io.entry) report.old) (standing state.new (lent sys.exit io.exit) report.new) }
+    ensures { RowRun (attention_row channel) (standing state.old (lent sys.old io.old) report.old) (standing state.new (lent sys.new io.new) report.new) }
 {
     let answer = service::iop89_attention(state, sys, io, channel);
     counting::attention(report, answer % 256 == 0, channel);
@@ -58,7 +58,7 @@ fn attend(state: &mut [u8], channel: u32, sys: &mut [u8], io: &mut [u8], report:
 // A row that is a step with a line number.
 fn step(state: &mut [u8], lines: u32, sys: &mut [u8], io: &mut [u8], report: &mut [u64])
     requires { StateBytes state.old }
-    ensures { RowRun (step_row lines) (standing state.old (lent sys.entry io.entry) report.old) (standing state.new (lent sys.exit io.exit) report.new) }
+    ensures { RowRun (step_row lines) (standing state.old (lent sys.old io.old) report.old) (standing state.new (lent sys.new io.new) report.new) }
 {
     let first = finding::find(state_bytes::layout::channel(state, false), lines, false);
     let second = finding::find(state_bytes::layout::channel(state, true), lines, true);
@@ -75,8 +75,8 @@ fn turn(
     io: &mut [u8],
     report: &mut [u64],
 )
-    requires { TurnReady number row (standing state.old (lent sys io) report.old) }
-    ensures { Turned number row (standing state.old (lent sys.entry io.entry) report.old) (standing state.new (lent sys.exit io.exit) report.new) }
+    requires { TurnReady number row (standing state.old (lent sys.old io.old) report.old) }
+    ensures { Turned number row (standing state.old (lent sys.old io.old) report.old) (standing state.new (lent sys.new io.new) report.new) }
 {
     if number != 0 {
         return;
@@ -97,7 +97,7 @@ pub extern "C" fn iop89_schedule(
     io: &mut [u8],
     report: &mut [u64],
 ) -> u32
-    ensures { ScheduleMet result (standing state.new (lent sys.exit io.exit) report.new) (standing state.old (lent sys.entry io.entry) report.old) rows.now }
+    ensures { ScheduleMet result (standing state.new (lent sys.new io.new) report.new) (standing state.old (lent sys.old io.old) report.old) rows.now }
 {
     let number = begin(state, report, known(rows));
     let mut i: usize = 0;

@@ -69,10 +69,13 @@ counts_open p rows = report_of p rows
 
 -- a test holds or does not, beside another: once together
 once-each : (a b : Bool) → once_if (a && b) + once_if (a && not b) ≡ once_if a
-once-each a b = elim a [ true ↦ elim b [ true ↦ refl | false ↦ refl ] | false ↦ refl ]
+once-each true true = refl
+once-each true false = refl
+once-each false b = refl
 
 pub once-one : (b : Bool) → once_if b ≤ 1
-once-one b = elim b [ true ↦ omega arith | false ↦ omega arith ]
+once-one true = omega arith
+once-one false = omega arith
 
 -- a test counts once exactly where it holds
 pub once-exactly : {a : Bool} {A : Type 0} → Says a A → (once_if a ≡ 1) ↔ A
@@ -112,7 +115,7 @@ work_of second t = once_if (is_done is_instruction second t) + once_if (is_done 
 step-once : (s : State) (m : Buffers) (lines : ℕ) → once_if (eqb (step_of s m lines).number 0) ≡ work_of false (step_of s m lines) + work_of true (step_of s m lines)
 unfolding channel_number
 step-once s m lines =
-    let one : (b : Bool) → once_if (eqb (channel_number b) 1) + once_if (eqb (channel_number b) 2) ≡ 1 = λ b. elim b [ true ↦ refl | false ↦ refl ] in
+    let one : (b : Bool) → once_if (eqb (channel_number b) 1) + once_if (eqb (channel_number b) 2) ≡ 1 = elim [ true ↦ refl | false ↦ refl ] in
     by-step s m lines (λ (t : Step). once_if (eqb t.number 0) ≡ work_of false t + work_of true t) (λ k ne. rw (ne_eqb k 0 ne))
     (λ b z e. simp (and-true, and-false) (omega (arith, one b))) (λ b z e f. simp (and-true, and-false) (omega (arith, one b)))
     (λ b z e f. simp (and-true, and-false) (omega (arith, one b)))

@@ -20,15 +20,19 @@ use Rattle.schedule_rules.proofs.RowLaws.{once-one, once-exactly}
 -- what a transfer step touches is what it reads and then what it stores
 pub touched-apart : (k : Part) (c : Channel) (m : Buffers) → touched_by k c m ≡ reads_by k c m ++ stores_by k c m
 unfolding touched_by reads_by stores_by
-touched-apart k c m = elim k [ Whole ↦ refl | FirstFetch ↦ refl | SecondFetch byte ↦ refl | FirstStore ↦ refl | SecondStore byte ↦ refl ]
+touched-apart Whole c m = refl
+touched-apart FirstFetch c m = refl
+touched-apart (SecondFetch byte) c m = refl
+touched-apart FirstStore c m = refl
+touched-apart (SecondStore byte) c m = refl
 
 -- no part stores more than two bytes
 pub stores-most : (k : Part) (c : Channel) (m : Buffers) → length (stores_by k c m) ≤ 2
 unfolding stores_by stored_places places_on also
 stores-most k c m =
-    let side : (two : Bool) → length (places_on (destination c) two) ≤ 2 = λ two. elim two [ true ↦ omega arith | false ↦ omega arith ] in
+    let side : (two : Bool) → length (places_on (destination c) two) ≤ 2 = elim [ true ↦ omega arith | false ↦ omega arith ] in
     let one : 1 ≤ 2 = omega arith in
-    elim k [ Whole ↦ side (stores_two c (data_of c m)) | FirstFetch ↦ omega arith | SecondFetch byte ↦ side true | FirstStore ↦ one | SecondStore byte ↦ one ]
+    elim k as (λ k. length (stores_by k c m) ≤ 2) [ Whole ↦ side (stores_two c (data_of c m)) | FirstFetch ↦ omega arith | SecondFetch byte ↦ side true | FirstStore ↦ one | SecondStore byte ↦ one ]
 
 -- a row stores at most two bytes for a transfer step, and nothing else does
 pub stored-most : (second : Bool) (p : Bench) (r : ScheduleRow) → stored_at second p r ≤ 2 * transfer_at second p r

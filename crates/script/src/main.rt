@@ -14,7 +14,7 @@ use std::io;
 use std::io::Read;
 
 // How many bytes of each buffer are lent.
-#[derive(Drop)]
+#[derive(Clone, Copy)]
 struct LentLengths {
     sys: usize,
     io: usize,
@@ -115,7 +115,7 @@ fn behind(text: &[u8], end: usize) -> usize
 }
 
 // What a call is given of the text, and where the next line starts.
-#[derive(Drop)]
+#[derive(Clone, Copy)]
 struct GivenText {
     from: usize,
     to: usize,

@@ -10,8 +10,8 @@ use lib.Dec.{leb}
 use lib.ListN.{length, take, drop, length-append, length-take}
 use Rattle.ground_rules.specs.Choice.{pick}
 use Rattle.listing_rules.specs.Items.{item_of, count_of}
-use Rattle.listing_rules.specs.Listings.{TextLine, lines_by, lines_of, all_chars, list_limit, Listing, listing, listing_of}
-use Rattle.listing_rules.proofs.Theorems.{Proper, Every, none, more, all-proper, all_fit}
+use Rattle.listing_rules.specs.Listings.{TextLine, lines_by, lines_of, all_chars, Listing, listing, listing_of}
+use Rattle.listing_rules.proofs.Theorems.{Every, none, more, all-proper, all_fit}
 use Rattle.page.specs.Pages.{page, written, Behind}
 use Rattle.page.proofs.PageLaws.{printed}
 use Rattle.script_lines.specs.Lines.{refused_line}

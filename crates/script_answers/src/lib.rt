@@ -1,4 +1,6 @@
 // Makes a call of the script program's text on a machine, and puts what it shows into a lent buffer.
+#![tactic(auto)]
+
 ghost use Rattle.std.specs.Prelude.{◌≡◌, true, [], ◌≤◌, length};
 ghost use Rattle.ground_rules.specs.Buffers.{buffers, lent};
 ghost use Rattle.ground_rules.specs.States.{fresh_of};
@@ -20,7 +22,7 @@ use script_text::text::ScriptCall;
 use script_text::{buffers, registers, text};
 
 // The state after a line, whether its call was made, and how many bytes its text has.
-#[derive(Drop)]
+#[derive(Clone, Copy)]
 pub struct Performed {
     pub state: State,
     pub made: bool,
@@ -29,7 +31,7 @@ pub struct Performed {
 
 // Makes every byte 0, and a fresh state.
 fn make(cp: u32, sys: &mut [u8], io: &mut [u8], out: &mut [u8]) -> Performed
-    ensures io_value { (machine result.state (lent sys.exit io.exit) ≡ remade (lent sys.entry io.entry) cp) × (result.made ≡ true) }
+    ensures io_value { (machine result.state (lent sys.new io.new) ≡ remade (lent sys.old io.old) cp) × (result.made ≡ true) }
     ensures behind { Behind (page out.old 0) (page out.new result.count) (answer_line (ascii "make ") (fresh_of cp).number) }
 {
     buffers::clear(sys);
@@ -46,7 +48,7 @@ fn make(cp: u32, sys: &mut [u8], io: &mut [u8], out: &mut [u8]) -> Performed
 // Writes the bytes that are a line's fourth word, and answers whether they were written.
 fn put(io_space: bool, address: u32, line: &[u8], sys: &mut [u8], io: &mut [u8]) -> bool
     ensures value { result ≡ has_room (pick io_space io.old sys.old) address (spanned line.now (fourth_span line.now)) }
-    ensures io_value { lent sys.exit io.exit ≡ put_into (lent sys.entry io.entry) io_space address (spanned line.now (fourth_span line.now)) }
+    ensures io_value { lent sys.new io.new ≡ put_into (lent sys.old io.old) io_space address (spanned line.now (fourth_span line.now)) }
 {
     let span = text::fourth_word(line);
     let from = span.from;
@@ -70,8 +72,8 @@ fn put_line(out: &mut [u8], made: bool) -> usize
 
 // Gives a channel attention.
 fn attend(s: State, channel: u32, sys: &mut [u8], io: &mut [u8], out: &mut [u8]) -> Performed
-    ensures io_value { (machine result.state (lent sys.exit io.exit) ≡ machine_attended s (lent sys.entry io.entry) channel) × (result.made ≡ true) }
-    ensures behind { Behind (page out.old 0) (page out.new result.count) (counted_line (ascii "ca ") (attention_of s (lent sys.entry io.entry) channel).number (attention_count s (lent sys.entry io.entry) channel)) }
+    ensures io_value { (machine result.state (lent sys.new io.new) ≡ machine_attended s (lent sys.old io.old) channel) × (result.made ≡ true) }
+    ensures behind { Behind (page out.old 0) (page out.new result.count) (counted_line (ascii "ca ") (attention_of s (lent sys.old io.old) channel).number (attention_count s (lent sys.old io.old) channel)) }
 {
     let a = attention::attention(s, sys, io, channel);
     let state = a.state;
@@ -84,8 +86,8 @@ fn attend(s: State, channel: u32, sys: &mut [u8], io: &mut [u8], out: &mut [u8])
 
 // Makes a step.
 fn advance(s: State, lines: u32, sys: &mut [u8], io: &mut [u8], out: &mut [u8]) -> Performed
-    ensures io_value { (machine result.state (lent sys.exit io.exit) ≡ machine_advanced s (lent sys.entry io.entry) lines) × (result.made ≡ true) }
-    ensures behind { Behind (page out.old 0) (page out.new result.count) (advanced_line s (lent sys.entry io.entry) lines) }
+    ensures io_value { (machine result.state (lent sys.new io.new) ≡ machine_advanced s (lent sys.old io.old) lines) × (result.made ≡ true) }
+    ensures behind { Behind (page out.old 0) (page out.new result.count) (advanced_line s (lent sys.old io.old) lines) }
 {
     let r = step::step(s, sys, io, lines);
     let kind = r.kind;
@@ -121,7 +123,7 @@ fn is_part(bytes: &[u8], address: u32, count: u32) -> bool
 }
 
 // Whether a listing was made, and how many bytes its text has.
-#[derive(Drop)]
+#[derive(Clone, Copy)]
 struct ListedPart {
     made: bool,
     count: usize,
@@ -178,8 +180,8 @@ fn load(file: &[u8], sys: &mut [u8], out: &mut [u8]) -> usize
 
 // Powers the machine up.
 fn wake(s: State, sys: &mut [u8], io: &mut [u8], out: &mut [u8]) -> Performed
-    ensures io_value { (machine result.state (lent sys.exit io.exit) ≡ machine_powered s (lent sys.entry io.entry)) × (result.made ≡ true) }
-    ensures behind { Behind (page out.old 0) (page out.new result.count) (counted_line (ascii "power ") (power_up_of s (lent sys.entry io.entry)).number (power_count (lent sys.entry io.entry))) }
+    ensures io_value { (machine result.state (lent sys.new io.new) ≡ machine_powered s (lent sys.old io.old)) × (result.made ≡ true) }
+    ensures behind { Behind (page out.old 0) (page out.new result.count) (counted_line (ascii "power ") (power_up_of s (lent sys.old io.old)).number (power_count (lent sys.old io.old))) }
 {
     let a = power::power_up(s, sys, io);
     let state = a.state;
@@ -199,8 +201,8 @@ fn sweep_channel(
     io: &mut [u8],
     out: &mut [u8],
 ) -> Performed
-    ensures io_value { (machine result.state (lent sys.exit io.exit) ≡ machine_swept s (lent sys.entry io.entry) channel lines) × (result.made ≡ true) }
-    ensures behind { Behind (page out.old 0) (page out.new result.count) (sweep_text s (lent sys.entry io.entry) channel lines) }
+    ensures io_value { (machine result.state (lent sys.new io.new) ≡ machine_swept s (lent sys.old io.old) channel lines) × (result.made ≡ true) }
+    ensures behind { Behind (page out.old 0) (page out.new result.count) (sweep_text s (lent sys.old io.old) channel lines) }
 {
     let r = sweep::sweep(s, sys, io, channel, lines);
     let state = r.state;
@@ -220,9 +222,9 @@ pub fn perform(
     io: &mut [u8],
     out: &mut [u8; 32768],
 ) -> Performed
-    ensures io_value { machine result.state (lent sys.exit io.exit) ≡ call_performed call line.now s (lent sys.entry io.entry) }
-    ensures made_value { result.made ≡ call_made call line.now (lent sys.entry io.entry) }
-    ensures printed { Printed out.old out.new result.count (call_text call line.now s (lent sys.entry io.entry)) }
+    ensures io_value { machine result.state (lent sys.new io.new) ≡ call_performed call line.now s (lent sys.old io.old) }
+    ensures made_value { result.made ≡ call_made call line.now (lent sys.old io.old) }
+    ensures printed { Printed out.old out.new result.count (call_text call line.now s (lent sys.old io.old)) }
 {
     match call {
         ScriptCall::Nothing => Performed {

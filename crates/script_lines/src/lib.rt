@@ -1,4 +1,6 @@
 // The lines that the script program shows, put into a lent buffer behind the text that it has: answers of calls, bytes, and dumps.
+#![tactic(auto)]
+
 ghost use Rattle.std.specs.Prelude.{◌≡◌};
 ghost use Rattle.ground_rules.specs.Buffers.{buffers, lent};
 ghost use Rattle.page.specs.Pages.{page, Behind};
@@ -219,7 +221,7 @@ fn shared_line(
 
 // The three lines of a dump.
 pub fn dump(out: &mut [u8], at: usize, s: State, sys: &[u8], io: &[u8]) -> usize
-    ensures { Behind (page out.old at) (page out.new result) (dump_text s (lent sys.entry io.entry)) }
+    ensures { Behind (page out.old at) (page out.new result) (dump_text s (lent sys.now io.now)) }
 {
     let first = s.first;
     let second = s.second;

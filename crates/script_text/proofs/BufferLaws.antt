@@ -4,7 +4,7 @@ use mathlib.Core.List.{List, [], ◌∷◌}
 use mathlib.Core.Path.{◌≡◌, refl, ap, ap₂, ◌∙◌}
 use Prim.Native.Nat.{ℕ, ◌+◌, ◌*◌, ◌≤◌, ◌<◌}
 use native.Mathlib.Omega.{arith}
-use lib.ListN.{length, drop, get_or, set, drop_of_length-le, length-drop}
+use lib.ListN.{length, drop, get_or, set, drop_of_length-le}
 use Rattle.script_text.specs.Buffers.{byte_of, bytes_written, digest_byte, digest_from}
 use Rattle.script_text.proofs.TextLaws.{from-here}
 

@@ -1,4 +1,5 @@
 // The script program's text: the names of calls and registers, the call that a line is, registers set as they stand, and the buffers that bytes are written to.
+#![tactic(auto)]
 
 // The names of calls and registers.
 pub mod names;

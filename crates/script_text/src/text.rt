@@ -7,7 +7,7 @@ ghost use Rattle.script_text.specs.Calls.{make_call, put_call, set_call, attenti
 use crate::{names, registers};
 
 // What a line calls for; nothing where it is passed over, unknown where it is no call.
-#[derive(Drop)]
+#[derive(Clone, Copy)]
 pub enum ScriptCall {
     Nothing,
     Unknown,
@@ -26,14 +26,14 @@ pub enum ScriptCall {
 }
 
 // Where a word lies in its line.
-#[derive(Drop)]
+#[derive(Clone, Copy)]
 pub struct Span {
     pub from: usize,
     pub to: usize,
 }
 
 // A word: its name, its number, whether it is pairs of digits, and where it ends.
-#[derive(Drop)]
+#[derive(Clone, Copy)]
 pub struct Word {
     pub name: u64,
     pub number: u64,
@@ -42,7 +42,7 @@ pub struct Word {
 }
 
 // The first five words of a line.
-#[derive(Drop)]
+#[derive(Clone, Copy)]
 pub struct Words {
     pub first: Word,
     pub second: Word,

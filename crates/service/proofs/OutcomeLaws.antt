@@ -17,7 +17,7 @@ use Rattle.ground_rules.specs.Buffers.{Buffers, buffers, AllBytes}
 use Rattle.ground_rules.proofs.ConditionLaws.{first-none-left, first-none-right}
 use Rattle.ground_rules.proofs.GivenLaws.{given-agree}
 use Rattle.ground_rules.proofs.OutcomeLaws.{settled-number}
-use Rattle.ground_rules.specs.Outcomes.{Outcome, settled}
+use Rattle.ground_rules.specs.Outcomes.{Outcome}
 use Rattle.ground_rules.specs.States.{reset_state, agree, channel_of, with_channel, is_second}
 use Rattle.ground_rules.specs.Updates.{with_transfer}
 use Rattle.ground_rules.specs.declared.State.{State}

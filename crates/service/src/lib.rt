@@ -1,5 +1,7 @@
 // The machine call by call for C: a state lives in the caller's bytes, and each call takes it from there and leaves it
 // there.
+#![tactic(auto)]
+
 ghost use Rattle.std.specs.Prelude.{true, ◌≡◌, length};
 ghost use Rattle.ground_rules.specs.Buffers.{Buffers, lent};
 ghost use Rattle.ground_rules.specs.States.{reset_state, fresh_of, agree, fields_agree};
@@ -54,8 +56,8 @@ pub extern "C" fn iop89_reset(state: &mut [u8]) -> u32
 // Powers the machine up, whatever state the bytes held.
 #[unsafe(no_mangle)]
 pub extern "C" fn iop89_power_up(state: &mut [u8], sys: &mut [u8], io: &mut [u8]) -> u32
-    ensures left { served result state.new (lent sys.exit io.exit) ≡ power_served state.old (lent sys.entry io.entry) }
-    ensures whole { length state.old ≡ state_length → state_in state.new ≡ (power_up_of (state_in state.old) (lent sys.entry io.entry)).state }
+    ensures left { served result state.new (lent sys.new io.new) ≡ power_served state.old (lent sys.old io.old) }
+    ensures whole { length state.old ≡ state_length → state_in state.new ≡ (power_up_of (state_in state.old) (lent sys.old io.old)).state }
 {
     if state.len() != 104 {
         return 17;
@@ -78,8 +80,8 @@ pub extern "C" fn iop89_attention(
     io: &mut [u8],
     channel: u32,
 ) -> u32
-    ensures left { served result state.new (lent sys.exit io.exit) ≡ attention_served state.old (lent sys.entry io.entry) channel }
-    ensures whole { is_state state.old ≡ true → state_in state.new ≡ (attention_of (state_in state.old) (lent sys.entry io.entry) channel).state }
+    ensures left { served result state.new (lent sys.new io.new) ≡ attention_served state.old (lent sys.old io.old) channel }
+    ensures whole { is_state state.old ≡ true → state_in state.new ≡ (attention_of (state_in state.old) (lent sys.old io.old) channel).state }
 {
     if !layout::is_state(state) {
         return 17;
@@ -137,8 +139,8 @@ fn answered(state: &mut [u8], second: bool, t: Turn) -> u32
 // they are.
 #[unsafe(no_mangle)]
 pub extern "C" fn iop89_step(state: &mut [u8], sys: &mut [u8], io: &mut [u8], lines: u32) -> u32
-    ensures left { served result state.new (lent sys.exit io.exit) ≡ step_served state.old (lent sys.entry io.entry) lines }
-    ensures whole { is_state state.old ≡ true → state_in state.new ≡ (step_of (state_in state.old) (lent sys.entry io.entry) lines).state }
+    ensures left { served result state.new (lent sys.new io.new) ≡ step_served state.old (lent sys.old io.old) lines }
+    ensures whole { is_state state.old ≡ true → state_in state.new ≡ (step_of (state_in state.old) (lent sys.old io.old) lines).state }
 {
     if !layout::is_state(state) {
         return 17;
@@ -174,8 +176,8 @@ pub extern "C" fn iop89_sweep(
     channel: u32,
     lines: u32,
 ) -> u64
-    ensures left { served result state.new (lent sys.exit io.exit) ≡ sweep_served state.old (lent sys.entry io.entry) channel lines }
-    ensures whole { is_state state.old ≡ true → state_in state.new ≡ (sweep_of (state_in state.old) (lent sys.entry io.entry) channel lines).state }
+    ensures left { served result state.new (lent sys.new io.new) ≡ sweep_served state.old (lent sys.old io.old) channel lines }
+    ensures whole { is_state state.old ≡ true → state_in state.new ≡ (sweep_of (state_in state.old) (lent sys.old io.old) channel lines).state }
 {
     if !layout::is_state(state) {
         return 17;

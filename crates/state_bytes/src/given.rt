@@ -12,7 +12,7 @@ use ground_rules::State;
 // go through memory.
 pub fn entry_number(state: &[u8], s: State, lines: u32, sys: &[u8], io: &[u8]) -> u32
     requires { (is_state state.now ≡ true) × (s ≡ state_in state.now) }
-    ensures { result ≡ entry_number s (lent sys.entry io.entry) lines }
+    ensures { result ≡ entry_number s (lent sys.now io.now) lines }
 {
     if 16 <= lines {
         return 12;

@@ -1,4 +1,5 @@
 // A state in bytes, as the caller keeps it.
+#![tactic(auto)]
 
 // One field of a state in bytes.
 mod fields;

@@ -1,1 +1,2 @@
 // Types of the rules of a state in bytes.
+#![tactic(auto)]

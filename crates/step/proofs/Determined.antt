@@ -27,4 +27,4 @@ pub channel-turn-determined : (κs : Lfts 2) (a : Dens κs turn-kinds.ps) (r q :
     → turn-reads.Post κs a r e → turn-reads.Post κs a q f → (taken r (buffers e.1.1.1.0.now e.1.1.1.1.0.now) ≡ taken q (buffers f.1.1.1.0.now f.1.1.1.1.0.now)) × (r.count ≡ q.count)
 channel-turn-determined κs a r q e f p w =
     let same = p.0 ∙ sym w.0 in
-    (same, p.1 ∙ ap (λ (x : Taken). counted x.number (turn_touched a.1.1.0 a.0 (lent a.1.1.1.0 a.1.1.1.1.0) a.1.0)) same ∙ sym w.1)
+    (same, p.1 ∙ ap (λ (x : Taken). counted x.number (turn_touched a.1.1.0 a.0 (lent a.1.1.1.0.now a.1.1.1.1.0.now) a.1.0)) same ∙ sym w.1)

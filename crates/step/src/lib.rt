@@ -1,4 +1,6 @@
 // The step call: one instruction, one transfer step or one external end.
+#![tactic(auto)]
+
 ghost use Rattle.std.specs.Prelude.{◌≡◌, eqb};
 ghost use Rattle.ground_rules.specs.Buffers.{lent};
 ghost use Rattle.ground_rules.specs.Choice.{pick};
@@ -16,7 +18,7 @@ pub mod turns;
 
 // What a channel's step comes to: its number, 0 for done, how many bytes it read and stored, the channel after it and its
 // kind.
-#[derive(Drop)]
+#[derive(Clone, Copy)]
 pub struct Turn {
     pub number: u32,
     pub count: u32,
@@ -65,8 +67,8 @@ fn settled(number: u32, s: State, second: bool, c: Channel, kind: Kind, count: u
 // state, since a caller that keeps a state in bytes takes it from there alone. It is handed on by its parts both times, so
 // that the compiler keeps neither in memory.
 pub fn channel_turn(s: State, second: bool, c: Channel, sys: &mut [u8], io: &mut [u8]) -> Turn
-    ensures left { taken result (lent sys.exit io.exit) ≡ turn_of c s (lent sys.entry io.entry) second }
-    ensures count { result.count ≡ counted result.number (turn_touched c s (lent sys.entry io.entry) second) }
+    ensures left { taken result (lent sys.new io.new) ≡ turn_of c s (lent sys.old io.old) second }
+    ensures count { result.count ≡ counted result.number (turn_touched c s (lent sys.old io.old) second) }
 {
     if machine::psw::transferring(c.psw) {
         let t = transfer::transfer(c, sys, io);
@@ -95,8 +97,8 @@ pub fn channel_turn(s: State, second: bool, c: Channel, sys: &mut [u8], io: &mut
 
 // The same with the state after it.
 fn channel_step(s: State, second: bool, sys: &mut [u8], io: &mut [u8]) -> Stepped
-    ensures left { left result (lent sys.exit io.exit) ≡ channel_step s (lent sys.entry io.entry) second }
-    ensures count { result.count ≡ counted result.number (touched_in (Steps second) s (lent sys.entry io.entry)) }
+    ensures left { left result (lent sys.new io.new) ≡ channel_step s (lent sys.old io.old) second }
+    ensures count { result.count ≡ counted result.number (touched_in (Steps second) s (lent sys.old io.old)) }
 {
     let t = channel_turn(s, second, machine::states::channel(s, second), sys, io);
     let c = t.channel;
@@ -106,8 +108,8 @@ fn channel_step(s: State, second: bool, sys: &mut [u8], io: &mut [u8]) -> Steppe
 
 // The step of a choice.
 fn chosen(choice: Choice, s: State, sys: &mut [u8], io: &mut [u8]) -> Stepped
-    ensures left { left result (lent sys.exit io.exit) ≡ chosen_step choice s (lent sys.entry io.entry) }
-    ensures count { result.count ≡ counted result.number (touched_in choice s (lent sys.entry io.entry)) }
+    ensures left { left result (lent sys.new io.new) ≡ chosen_step choice s (lent sys.old io.old) }
+    ensures count { result.count ≡ counted result.number (touched_in choice s (lent sys.old io.old)) }
 {
     match choice {
         Choice::Nobody => refused(s, 1),
@@ -124,7 +126,7 @@ fn chosen(choice: Choice, s: State, sys: &mut [u8], io: &mut [u8]) -> Stepped
 
 // The refusal of what a step is given: 12 for lines past 15, then 11, 10, 13 and 14, else 0.
 pub fn entry_number(s: State, lines: u32, sys: &[u8], io: &[u8]) -> u32
-    ensures { result ≡ entry_number s (lent sys.entry io.entry) lines }
+    ensures { result ≡ entry_number s (lent sys.now io.now) lines }
 {
     if lines < 16 {
         machine::states::given_number(s, sys, io)
@@ -135,8 +137,8 @@ pub fn entry_number(s: State, lines: u32, sys: &[u8], io: &[u8]) -> u32
 
 // One step of the machine.
 pub fn step(s: State, sys: &mut [u8], io: &mut [u8], lines: u32) -> Stepped
-    ensures left { left result (lent sys.exit io.exit) ≡ step_of s (lent sys.entry io.entry) lines }
-    ensures count { result.count ≡ step_count s (lent sys.entry io.entry) lines }
+    ensures left { left result (lent sys.new io.new) ≡ step_of s (lent sys.old io.old) lines }
+    ensures count { result.count ≡ step_count s (lent sys.old io.old) lines }
 {
     let number = entry_number(s, lines, sys, io);
     if number != 0 {

@@ -1,4 +1,6 @@
 // A sweep in one go: all bytes that a block transfer has left, moved by one call.
+#![tactic(auto)]
+
 ghost use Rattle.std.specs.Prelude.{true, ◌≡◌, ◌+◌, ◌≤◌, length};
 ghost use Rattle.ground_rules.specs.Buffers.{lent, within_limits};
 ghost use Rattle.transfer_rules.specs.Ends.{offset_of};
@@ -15,7 +17,7 @@ use ground_rules::{Channel, Fields, Held, Pointer, State};
 use sweep_rules::Swept;
 
 // What a transfer has left: where its bytes come from, where they go, and how many they are.
-#[derive(Drop)]
+#[derive(Clone, Copy)]
 pub struct Remainder {
     pub from: Pointer,
     pub into: Pointer,
@@ -91,7 +93,7 @@ pub fn remainder_of(c: Channel) -> Remainder
 
 // Whether bytes in a row are lent, without wrapping.
 fn range_lent(sys: &[u8], io: &[u8], p: Pointer, n: u32) -> bool
-    ensures { result ≡ range_lent (lent sys.entry io.entry) p n }
+    ensures { result ≡ range_lent (lent sys.now io.now) p n }
 {
     let end = place(p) + n as usize;
     if p.tag {
@@ -113,7 +115,7 @@ fn ranges_apart(p: Pointer, q: Pointer, n: u32) -> bool
 
 // Whether both ranges are lent, do not wrap, and share no byte.
 fn ranges_fit(c: Channel, sys: &[u8], io: &[u8]) -> bool
-    ensures { result ≡ ranges_fit c (lent sys.entry io.entry) }
+    ensures { result ≡ ranges_fit c (lent sys.now io.now) }
 {
     let rest = remainder_of(c);
     let from = rest.from;
@@ -124,8 +126,8 @@ fn ranges_fit(c: Channel, sys: &[u8], io: &[u8]) -> bool
 
 // Bytes put where another pointer points, in whichever spaces both lie.
 fn copy(sys: &mut [u8], io: &mut [u8], p: Pointer, q: Pointer, n: u32)
-    requires { (within_limits (lent sys io) ≡ true) × (range_lent (lent sys io) p n ≡ true) × (range_lent (lent sys io) q n ≡ true) }
-    ensures { lent sys.exit io.exit ≡ copied_on (lent sys.entry io.entry) p q n }
+    requires { (within_limits (lent sys.old io.old) ≡ true) × (range_lent (lent sys.old io.old) p n ≡ true) × (range_lent (lent sys.old io.old) q n ≡ true) }
+    ensures { lent sys.new io.new ≡ copied_on (lent sys.old io.old) p q n }
 {
     let from = place(p);
     let into = place(q);
@@ -159,7 +161,7 @@ fn plain_fields(f: Fields) -> bool
 
 // Whether a channel can be swept.
 fn sweepable(s: State, sys: &[u8], io: &[u8], second: bool, lines: u32) -> bool
-    ensures { result ≡ Sweep.sweepable s (lent sys.entry io.entry) second lines }
+    ensures { result ≡ Sweep.sweepable s (lent sys.now io.now) second lines }
 {
     let c = machine::states::channel(s, second);
     let other = machine::states::channel(s, !second);
@@ -175,7 +177,7 @@ fn sweepable(s: State, sys: &[u8], io: &[u8], second: bool, lines: u32) -> bool
 
 // The refusal of a sweep, 0 for none.
 pub fn number(s: State, sys: &[u8], io: &[u8], channel: u32, lines: u32) -> u32
-    ensures { result ≡ sweep_number s (lent sys.entry io.entry) channel lines }
+    ensures { result ≡ sweep_number s (lent sys.now io.now) channel lines }
 {
     if !(machine::states::is_channel(channel) & (lines < 16)) {
         return 12;
@@ -242,7 +244,7 @@ fn finished(c: Channel, n: u32) -> Channel
 
 // All bytes that a block transfer has left, in one go.
 pub fn sweep(s: State, sys: &mut [u8], io: &mut [u8], channel: u32, lines: u32) -> Swept
-    ensures { swept_with result (lent sys.exit io.exit) ≡ sweep_of s (lent sys.entry io.entry) channel lines }
+    ensures { swept_with result (lent sys.new io.new) ≡ sweep_of s (lent sys.old io.old) channel lines }
 {
     let refusal = number(s, sys, io, channel, lines);
     if refusal != 0 {

@@ -12,7 +12,7 @@ pub extern "C" fn iop89_sweep(
     channel: u32,
     lines: u32,
 ) -> u64
-    ensures { served result state.new (lent sys.exit io.exit) ≡ sweep_served state.old (lent sys.entry io.entry) channel lines }
+    ensures { served result state.new (lent sys.new io.new) ≡ sweep_served state.old (lent sys.old io.old) channel lines }
 {
     service::iop89_sweep(state, sys, io, channel, lines)
 }

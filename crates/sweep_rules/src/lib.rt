@@ -1,10 +1,12 @@
 // A sweep in one go: what the call answers, when it is refused, what it leaves, and the plain steps that it stands for; no
 // code that runs.
+#![tactic(auto)]
+
 use ground_rules::State;
 
 // What a sweep answers: its number, 0 for done, the steps that it stands for, how many bytes it read and stored, and the
 // state.
-#[derive(Drop)]
+#[derive(Clone, Copy)]
 pub struct Swept {
     pub number: u32,
     pub steps: u32,

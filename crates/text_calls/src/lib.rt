@@ -1,4 +1,6 @@
 // PROM files, listings and assemblies for C.
+#![tactic(auto)]
+
 ghost use Rattle.std.specs.Prelude.{[], ◌≡◌, ℕ, ◌+◌, ◌*◌, ◌<◌, length, get_or};
 ghost use Rattle.ground_rules.specs.Buffers.{buffers};
 ghost use Rattle.prom_rules.specs.Load.{word_for_c, packed_with, load_of};

@@ -1,5 +1,7 @@
 // What the next call touches, for C: a state lives in the caller's bytes, which are only read, as both memories are; the
 // places are told into the caller's words.
+#![tactic(auto)]
+
 ghost use Rattle.std.specs.Prelude.{◌≡◌};
 ghost use Rattle.ground_rules.specs.Buffers.{lent};
 ghost use Rattle.state_rules.specs.Calls as Calls;
@@ -41,7 +43,7 @@ pub extern "C" fn iop89_touches_attention(
     channel: u32,
     places: &mut [u32],
 ) -> u32
-    ensures { telling result places.new ≡ touches_attention state.now (lent sys.entry io.entry) channel places.old }
+    ensures { telling result places.new ≡ touches_attention state.now (lent sys.now io.now) channel places.old }
 {
     if !layout::is_state(state) {
         return 17;
@@ -58,7 +60,7 @@ pub extern "C" fn iop89_touches_power_up(
     io: &[u8],
     places: &mut [u32],
 ) -> u32
-    ensures { telling result places.new ≡ touches_power_up state.now (lent sys.entry io.entry) places.old }
+    ensures { telling result places.new ≡ touches_power_up state.now (lent sys.now io.now) places.old }
 {
     if state.len() != 104 {
         return 17;
@@ -75,7 +77,7 @@ pub extern "C" fn iop89_touches_step(
     lines: u32,
     places: &mut [u32],
 ) -> u32
-    ensures { telling result places.new ≡ touches_step state.now (lent sys.entry io.entry) lines places.old }
+    ensures { telling result places.new ≡ touches_step state.now (lent sys.now io.now) lines places.old }
 {
     if !layout::is_state(state) {
         return 17;
@@ -109,7 +111,7 @@ pub extern "C" fn iop89_touches_sweep(
     lines: u32,
     places: &mut [u32],
 ) -> u32
-    ensures { telling result places.new ≡ touches_sweep state.now (lent sys.entry io.entry) channel lines places.old }
+    ensures { telling result places.new ≡ touches_sweep state.now (lent sys.now io.now) channel lines places.old }
 {
     if !layout::is_state(state) {
         return 17;

@@ -12,7 +12,6 @@ use lib.ListN.{length, length-append}
 use Rattle.ground_rules.specs.Choice.{pick}
 use Rattle.ground_rules.specs.Buffers.{Buffers}
 use Rattle.ground_rules.specs.declared.State.{State}
-use Rattle.ground_rules.specs.Outcomes.{Outcome}
 use Rattle.ground_rules.specs.States.{fresh_of, channel_of, is_second}
 use Rattle.attention_rules.specs.Attention.{attention_of}
 use Rattle.page.specs.Numbers.{hex, decimal, letter}

@@ -1,4 +1,6 @@
 // The text of the trace program (§9): a line for each done step, and the last line.
+#![tactic(auto)]
+
 ghost use Rattle.std.specs.Prelude.{◌≡◌};
 ghost use Rattle.ground_rules.specs.Buffers.{lent};
 ghost use Rattle.ground_rules.specs.States.{channel_of, is_second};
@@ -12,7 +14,7 @@ use ground_rules::State;
 use turn_rules::Kind;
 
 // How a traced run ended, and how many bytes its text has.
-#[derive(Drop)]
+#[derive(Clone, Copy)]
 pub struct Traced {
     pub number: u32,
     pub steps: u32,
@@ -47,8 +49,8 @@ fn end_line(out: &mut [u8], at: usize, number: u32, steps: u32) -> usize
 
 // The text of at most 1,000 steps with no line up.
 fn steps(s: State, sys: &mut [u8], io: &mut [u8], out: &mut [u8]) -> Traced
-    ensures behind { Behind (page out.old 0) (page out.new result.count) (steps_text 1000 s (lent sys.entry io.entry) 0) }
-    ensures io_value { ran result.number result.steps (lent sys.exit io.exit) ≡ steps_from 1000 s (lent sys.entry io.entry) 0 0 }
+    ensures behind { Behind (page out.old 0) (page out.new result.count) (steps_text 1000 s (lent sys.old io.old) 0) }
+    ensures io_value { ran result.number result.steps (lent sys.new io.new) ≡ steps_from 1000 s (lent sys.old io.old) 0 0 }
 {
     let mut state = s;
     let mut done: u32 = 0;
@@ -77,8 +79,8 @@ fn steps(s: State, sys: &mut [u8], io: &mut [u8], out: &mut [u8]) -> Traced
 
 // The text of one attention to channel 1, and of the steps after it.
 fn attended(s: State, sys: &mut [u8], io: &mut [u8], out: &mut [u8]) -> Traced
-    ensures behind { Behind (page out.old 0) (page out.new result.count) (attended_text (attention_of s (lent sys.entry io.entry) 1)) }
-    ensures io_value { ran result.number result.steps (lent sys.exit io.exit) ≡ attended_run (attention_of s (lent sys.entry io.entry) 1) 0 1000 }
+    ensures behind { Behind (page out.old 0) (page out.new result.count) (attended_text (attention_of s (lent sys.old io.old) 1)) }
+    ensures io_value { ran result.number result.steps (lent sys.new io.new) ≡ attended_run (attention_of s (lent sys.old io.old) 1) 0 1000 }
 {
     let a = attention::attention(s, sys, io, 1);
     if a.number != 0 {

@@ -25,8 +25,8 @@ pub(crate) fn apart(c: Channel, p: Setup) -> bool
 // The first of two fetches: its byte is held.
 fn first_fetch(c: Channel, p: Setup, sys: &[u8], io: &[u8]) -> Moved
     requires { (p ≡ setup_of c) × (bad_mode c ≡ false) }
-    ensures left { left_by_move c result (lent sys.entry io.entry) ≡ step_by FirstFetch c (lent sys.entry io.entry) }
-    ensures count { result.count ≡ count_by FirstFetch c (lent sys.entry io.entry) }
+    ensures left { left_by_move c result (lent sys.now io.now) ≡ step_by FirstFetch c (lent sys.now io.now) }
+    ensures count { result.count ≡ count_by FirstFetch c (lent sys.now io.now) }
 {
     let source = p.source;
     let from = source.pointer;
@@ -41,8 +41,8 @@ fn first_fetch(c: Channel, p: Setup, sys: &[u8], io: &[u8]) -> Moved
 // The second of two fetches: a word is stored, the held byte below the one that is read.
 fn second_fetch(c: Channel, p: Setup, byte: u8, sys: &mut [u8], io: &mut [u8]) -> Moved
     requires { (p ≡ setup_of c) × (bad_mode c ≡ false) × (fetches_apart c ≡ true) }
-    ensures left { left_by_move c result (lent sys.exit io.exit) ≡ step_by (SecondFetch byte) c (lent sys.entry io.entry) }
-    ensures count { result.count ≡ count_by (SecondFetch byte) c (lent sys.entry io.entry) }
+    ensures left { left_by_move c result (lent sys.new io.new) ≡ step_by (SecondFetch byte) c (lent sys.old io.old) }
+    ensures count { result.count ≡ count_by (SecondFetch byte) c (lent sys.old io.old) }
 {
     let source = p.source;
     let from = source.pointer;
@@ -64,8 +64,8 @@ fn second_fetch(c: Channel, p: Setup, byte: u8, sys: &mut [u8], io: &mut [u8]) -
 // The first of two stores: the second byte is held, unless a match ends the transfer here.
 fn first_store(c: Channel, p: Setup, sys: &mut [u8], io: &mut [u8]) -> Moved
     requires { (p ≡ setup_of c) × (bad_mode c ≡ false) × (stores_apart c ≡ true) }
-    ensures left { left_by_move c result (lent sys.exit io.exit) ≡ step_by FirstStore c (lent sys.entry io.entry) }
-    ensures count { result.count ≡ count_by FirstStore c (lent sys.entry io.entry) }
+    ensures left { left_by_move c result (lent sys.new io.new) ≡ step_by FirstStore c (lent sys.old io.old) }
+    ensures count { result.count ≡ count_by FirstStore c (lent sys.old io.old) }
 {
     let fetched = reads::fetch(c, p, sys, io);
     if !fetched.touchable {
@@ -86,8 +86,8 @@ fn first_store(c: Channel, p: Setup, sys: &mut [u8], io: &mut [u8]) -> Moved
 // The second of two stores: the held byte is stored, and nothing is read.
 fn second_store(c: Channel, p: Setup, byte: u8, sys: &mut [u8], io: &mut [u8]) -> Moved
     requires { (p ≡ setup_of c) × (bad_mode c ≡ false) × (stores_apart c ≡ true) }
-    ensures left { left_by_move c result (lent sys.exit io.exit) ≡ step_by (SecondStore byte) c (lent sys.entry io.entry) }
-    ensures count { result.count ≡ count_by (SecondStore byte) c (lent sys.entry io.entry) }
+    ensures left { left_by_move c result (lent sys.new io.new) ≡ step_by (SecondStore byte) c (lent sys.old io.old) }
+    ensures count { result.count ≡ count_by (SecondStore byte) c (lent sys.old io.old) }
 {
     let side = p.destination;
     let at = side.pointer;
@@ -101,8 +101,8 @@ fn second_store(c: Channel, p: Setup, byte: u8, sys: &mut [u8], io: &mut [u8]) -
 // The half that is due: with the source synchronised a fetch, else a store; the first where nothing is held.
 pub(crate) fn due(c: Channel, p: Setup, sys: &mut [u8], io: &mut [u8]) -> Moved
     requires { (p ≡ setup_of c) × (bad_mode c ≡ false) × (is_half c ≡ true) }
-    ensures left { left_by_move c result (lent sys.exit io.exit) ≡ transfer_of c (lent sys.entry io.entry) }
-    ensures count { result.count ≡ transfer_count c (lent sys.entry io.entry) }
+    ensures left { left_by_move c result (lent sys.new io.new) ≡ transfer_of c (lent sys.old io.old) }
+    ensures count { result.count ≡ transfer_count c (lent sys.old io.old) }
 {
     let f = c.fields;
     let held = c.held;

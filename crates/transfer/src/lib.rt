@@ -1,4 +1,6 @@
 // One transfer step of a channel, and the external end of a transfer.
+#![tactic(auto)]
+
 ghost use Rattle.std.specs.Prelude.{false, ◌≡◌, length};
 ghost use Rattle.ground_rules.specs.Buffers.{Buffers, lent};
 ghost use Rattle.transfer.specs.Setups.{setup_of};
@@ -25,7 +27,7 @@ mod halves;
 mod moves;
 
 // What a channel says of its transfer before a byte is read.
-#[derive(Drop)]
+#[derive(Clone, Copy)]
 pub struct Setup {
     pub source: Side,
     pub destination: Side,
@@ -37,7 +39,7 @@ pub struct Setup {
 
 // What a step comes to before its channel is written: its number, how many bytes it read and stored, by how many bytes
 // the sides go on, 0 where a byte is held instead, the code of its end, and the byte that is held.
-#[derive(Drop)]
+#[derive(Clone, Copy)]
 pub struct Moved {
     pub number: u32,
     pub count: u32,
@@ -79,8 +81,8 @@ fn count(two: bool, stored: bool, translated: bool) -> u32
 // The whole move in one step.
 fn whole(c: Channel, p: Setup, sys: &mut [u8], io: &mut [u8]) -> Moved
     requires { (p ≡ setup_of c) × (bad_mode c ≡ false) }
-    ensures left { left_by_move c result (lent sys.exit io.exit) ≡ step_by Whole c (lent sys.entry io.entry) }
-    ensures count { result.count ≡ count_by Whole c (lent sys.entry io.entry) }
+    ensures left { left_by_move c result (lent sys.new io.new) ≡ step_by Whole c (lent sys.old io.old) }
+    ensures count { result.count ≡ count_by Whole c (lent sys.old io.old) }
 {
     let fetched = reads::fetch(c, p, sys, io);
     if !fetched.touchable {
@@ -102,8 +104,8 @@ fn whole(c: Channel, p: Setup, sys: &mut [u8], io: &mut [u8]) -> Moved
 // The part of a move that is due: a half of a pair, else the whole.
 fn part(c: Channel, p: Setup, sys: &mut [u8], io: &mut [u8]) -> Moved
     requires { p ≡ setup_of c }
-    ensures left { left_by_move c result (lent sys.exit io.exit) ≡ transfer_of c (lent sys.entry io.entry) }
-    ensures count { result.count ≡ transfer_count c (lent sys.entry io.entry) }
+    ensures left { left_by_move c result (lent sys.new io.new) ≡ transfer_of c (lent sys.old io.old) }
+    ensures count { result.count ≡ transfer_count c (lent sys.old io.old) }
 {
     if bad_mode(c, p) {
         return moves::refused(5);
@@ -150,16 +152,16 @@ pub fn bytes_fetched(c: Channel) -> u16
 
 // What one transfer step comes to; its channel is not written yet.
 pub fn comes_to(c: Channel, sys: &mut [u8], io: &mut [u8]) -> Moved
-    ensures left { left_by_move c result (lent sys.exit io.exit) ≡ transfer_of c (lent sys.entry io.entry) }
-    ensures count { result.count ≡ transfer_count c (lent sys.entry io.entry) }
+    ensures left { left_by_move c result (lent sys.new io.new) ≡ transfer_of c (lent sys.old io.old) }
+    ensures count { result.count ≡ transfer_count c (lent sys.old io.old) }
 {
     part(c, sides::plan(c), sys, io)
 }
 
 // One transfer step: a half where one is due, else the whole move.
 pub fn transfer(c: Channel, sys: &mut [u8], io: &mut [u8]) -> Done
-    ensures left { transferred result.number result.channel (lent sys.exit io.exit) ≡ transfer_of c (lent sys.entry io.entry) }
-    ensures count { result.count ≡ transfer_count c (lent sys.entry io.entry) }
+    ensures left { transferred result.number result.channel (lent sys.new io.new) ≡ transfer_of c (lent sys.old io.old) }
+    ensures count { result.count ≡ transfer_count c (lent sys.old io.old) }
 {
     let p = sides::plan(c);
     let m = part(c, p, sys, io);

@@ -10,14 +10,14 @@ use ground_rules::Channel;
 use transfer_rules::Data;
 
 // The bytes read, and whether each of them may be touched; where one may not, none counts.
-#[derive(Drop)]
+#[derive(Clone, Copy)]
 pub(crate) struct Fetched {
     pub(crate) bytes: Data,
     pub(crate) touchable: bool,
 }
 
 // A byte, and whether a call may touch it.
-#[derive(Drop)]
+#[derive(Clone, Copy)]
 pub struct Seen {
     pub byte: u8,
     pub touchable: bool,
@@ -25,7 +25,7 @@ pub struct Seen {
 
 // The byte at an address, and whether a call may touch it; the space is asked for once.
 pub fn see(tag: bool, address: u32, sys: &[u8], io: &[u8]) -> Seen
-    ensures { result ≡ seen (lent sys.entry io.entry) tag address }
+    ensures { result ≡ seen (lent sys.now io.now) tag address }
 {
     if tag {
         let byte = memory::byte(sys, io, true, address);
@@ -67,7 +67,7 @@ fn some(first: u8, second: u8) -> Fetched
 // The bytes to be stored, where all that is read for them may be touched.
 pub(crate) fn fetch(c: Channel, p: Setup, sys: &[u8], io: &[u8]) -> Fetched
     requires { (p ≡ setup_of c) × (bad_mode c ≡ false) }
-    ensures { result ≡ fetch_of c (lent sys.entry io.entry) }
+    ensures { result ≡ fetch_of c (lent sys.now io.now) }
 {
     let source = p.source;
     let from = source.pointer;

@@ -15,14 +15,14 @@ use ground_rules::{Channel, Held};
 use transfer_rules::Data;
 
 // What the masked compare decides: whether two bytes are stored, and the code of its end.
-#[derive(Drop)]
+#[derive(Clone, Copy)]
 struct Compared {
     two: bool,
     code: u32,
 }
 
 // What a step does with the bytes: whether two are stored, and the code of its end.
-#[derive(Drop)]
+#[derive(Clone, Copy)]
 pub(crate) struct StoreEnd {
     pub(crate) two: bool,
     pub(crate) code: u32,
@@ -138,7 +138,7 @@ pub(crate) fn landed(c: Channel, p: Setup, by: u32, code: u32) -> Channel
 
 // A byte stored where a call may touch it, else nothing; and whether it may. The space is asked for once.
 pub fn put_one(tag: bool, address: u32, v: u8, sys: &mut [u8], io: &mut [u8]) -> bool
-    ensures { (result ≡ touchable_at (lent sys.entry io.entry) tag address) × (lent sys.exit io.exit ≡ store_byte (lent sys.entry io.entry) tag address v) }
+    ensures { (result ≡ touchable_at (lent sys.old io.old) tag address) × (lent sys.new io.new ≡ store_byte (lent sys.old io.old) tag address v) }
 {
     if tag {
         memory::store_byte(sys, io, true, address, v);
@@ -151,7 +151,7 @@ pub fn put_one(tag: bool, address: u32, v: u8, sys: &mut [u8], io: &mut [u8]) ->
 
 // Two bytes stored where a call may touch both places, else nothing; and whether it may. The space is asked for once.
 pub fn put_two(tag: bool, address: u32, next: u32, d: Data, sys: &mut [u8], io: &mut [u8]) -> bool
-    ensures { (result ≡ touchable_at (lent sys.entry io.entry) tag address && touchable_at (lent sys.entry io.entry) tag next) × (lent sys.exit io.exit ≡ pick result (store_byte (store_byte (lent sys.entry io.entry) tag address d.first) tag next d.second) (lent sys.entry io.entry)) }
+    ensures { (result ≡ touchable_at (lent sys.old io.old) tag address && touchable_at (lent sys.old io.old) tag next) × (lent sys.new io.new ≡ pick result (store_byte (store_byte (lent sys.old io.old) tag address d.first) tag next d.second) (lent sys.old io.old)) }
 {
     if tag {
         memory::store_byte(sys, io, true, address, d.first);
@@ -171,7 +171,7 @@ pub fn put_two(tag: bool, address: u32, next: u32, d: Data, sys: &mut [u8], io: 
 
 // One byte or two stored on the destination where each place may be touched, else nothing; and whether it may.
 pub(crate) fn put(p: Setup, two: bool, d: Data, sys: &mut [u8], io: &mut [u8]) -> bool
-    ensures { (c : Channel) → p ≡ setup_of c → (result ≡ all_touchable (lent sys.entry io.entry) (places_on p.destination two)) × (lent sys.exit io.exit ≡ pick result (put_on p.destination two d (lent sys.entry io.entry)) (lent sys.entry io.entry)) }
+    ensures { (c : Channel) → p ≡ setup_of c → (result ≡ all_touchable (lent sys.old io.old) (places_on p.destination two)) × (lent sys.new io.new ≡ pick result (put_on p.destination two d (lent sys.old io.old)) (lent sys.old io.old)) }
 {
     let side = p.destination;
     let at = side.pointer;

@@ -34,12 +34,12 @@ pub reads-touchable : (c : Channel) (m : Buffers)
     ≡ touchable_at m (source c).pointer.tag (source c).pointer.address
     && ((not (two_move c) || touchable_at m (source c).pointer.tag (second_address (source c))) && (not c.fields.translates || touchable_at m c.gc.tag (entry_of c m)))
 unfolding read_places all_pass
-reads-touchable c m = rw (also-touchable, last-touchable)
+reads-touchable c m = rw (also-touchable m, last-touchable m)
 
 -- what is stored on a side: its byte, and its second where two are stored
 pub places-touchable : (m : Buffers) (s : Side) (two : Bool) → all_touchable m (places_on s two) ≡ touchable_at m s.pointer.tag s.pointer.address && (not two || touchable_at m s.pointer.tag (second_address s))
 unfolding places_on all_pass
-places-touchable m s two = rw last-touchable
+places-touchable m s two = rw (last-touchable m)
 
 -- what is read and what is stored is all that a whole step touches
 pub touched-all : (c : Channel) (m : Buffers) → all_touchable m (touched_by Whole c m) ≡ all_touchable m (read_places c m) && all_touchable m (stored_places c (data_of c m))

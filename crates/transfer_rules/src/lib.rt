@@ -1,8 +1,10 @@
 // Types of the rules of transfer steps.
+#![tactic(auto)]
+
 use ground_rules::Pointer;
 
 // One side of a transfer: its pointer, whether it moves on, and whether it is 16 bits wide.
-#[derive(Drop)]
+#[derive(Clone, Copy)]
 pub struct Side {
     pub pointer: Pointer,
     pub moves: bool,
@@ -10,7 +12,7 @@ pub struct Side {
 }
 
 // The bytes to be stored.
-#[derive(Drop)]
+#[derive(Clone, Copy)]
 pub struct Data {
     pub first: u8,
     pub second: u8,

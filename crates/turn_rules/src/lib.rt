@@ -1,8 +1,10 @@
 // Types of the rules of a step: who has the turn, and what a step answers.
+#![tactic(auto)]
+
 use ground_rules::State;
 
 // What a step was; nothing where it was refused.
-#[derive(Drop)]
+#[derive(Clone, Copy)]
 pub enum Kind {
     Nothing,
     Instruction,
@@ -12,7 +14,7 @@ pub enum Kind {
 
 // What a step answers: its number, 0 for done, how many bytes it read and stored, the state, and the number of the
 // channel and the kind of its step.
-#[derive(Drop)]
+#[derive(Clone, Copy)]
 pub struct Stepped {
     pub number: u32,
     pub count: u32,
@@ -22,7 +24,7 @@ pub struct Stepped {
 }
 
 // Who steps: nobody, or the channel whose transfer an external line ends, or the one that has its turn; false is channel 1.
-#[derive(Drop)]
+#[derive(Clone, Copy)]
 pub enum Choice {
     Nobody,
     Ends(bool),

@@ -1,5 +1,7 @@
 // Numbers only: bit fields, bytes of a word, 20-bit sums, signed numbers, the stored form of a pointer, the masked
 // compare and the byte count's subtraction.
+#![tactic(auto)]
+
 ghost use Rattle.std.specs.Prelude.{◌≡◌, true, false, nat_lt};
 ghost use Rattle.ground_rules.specs.Choice.{pick};
 ghost use Rattle.ground_rules.specs.Bits.{field_of, bit_of, with_bit};

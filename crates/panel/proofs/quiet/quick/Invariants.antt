@@ -1,0 +1,19 @@
+use Prim.Native.Nat.{◌-◌, ◌<◌, ◌≤◌}
+use lib.ListN.{length}
+use mathlib.Core.Bool.{false}
+use mathlib.Core.Path.{◌≡◌}
+use Rattle.ground_rules.specs.Buffers.{buffers}
+use Rattle.panel.specs.Bursts.{burst_from, moves, transfers_on, kept_at, fallen}
+use Rattle.panel.proofs.quiet.quick.Given as goal
+
+abbrev pub invariant-loop-done : goal.invariant-loop-done
+invariant-loop-done l =
+    (l.from ≤ l.done)
+    × (l.done ≤ l.end)
+    × (length l.sys ≡ length l.initial.sys)
+    × (length l.io ≡ length l.initial.io)
+    × ((l.from < l.end → (l.source < 1048576) × (l.destination < 1048576)))
+    × (burst_from moves transfers_on (l.stop - l.done) (kept_at l.c l.source l.destination (fallen false l.c.bc (l.done - l.from))) (buffers l.sys l.io) l.done ≡ burst_from moves transfers_on (l.stop - l.from) l.c (buffers l.initial.sys l.initial.io) l.from)
+
+abbrev pub decreases-loop-done : goal.decreases-loop-done
+decreases-loop-done l = l.end - l.done

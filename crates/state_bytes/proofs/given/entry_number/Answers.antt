@@ -1,0 +1,35 @@
+-- `state_bytes::given::entry_number` meets its contract.
+-- Assumes nothing.
+use borrow.Author.Tests.{lt-ltb, le-ltb, le-leb, not-true, not-false}
+use mathlib.Core.Path.{sym, ap, ◌∙◌}
+use Rattle.ground_rules.specs.Outcomes.{unless, first, given_number}
+use Rattle.ground_rules.specs.States.{agree}
+use Rattle.turn_rules.specs.Step.{entry_number}
+use Rattle.state_bytes.proofs.given.entry_number.Goals as goal
+
+pub returns-then-lines-ge16 : goal.returns-then-lines-ge16
+unfolding entry_number first unless
+returns-then-lines-ge16 c = simp (le-ltb _ _ c.if-lines-ge16.true, le-leb _ _ c.if-lines-ge16.true)
+
+pub returns-then-not-within_limits : goal.returns-then-not-within_limits
+unfolding entry_number given_number first unless
+returns-then-not-within_limits c = simp (not-true c.within_limits.result c.if-not-within_limits.true-raw, ← c.within_limits.ensures, lt-ltb _ _ c.if-lines-ge16.false)
+
+pub returns-then-not-sound : goal.returns-then-not-sound
+unfolding entry_number given_number first unless
+returns-then-not-sound c = simp (not-true c.sound.result c.if-not-sound.true-raw, ← c.sound.ensures, not-false c.within_limits.result c.if-not-within_limits.false-raw, ← c.within_limits.ensures, lt-ltb _ _ c.if-lines-ge16.false)
+
+pub returns-then-not-s : goal.returns-then-not-s
+unfolding entry_number given_number first unless
+returns-then-not-s c = simp (not-true c.args.s.board.powered c.if-not-s.true, not-false c.sound.result c.if-not-sound.false-raw, ← c.sound.ensures, not-false c.within_limits.result c.if-not-within_limits.false-raw, ← c.within_limits.ensures, lt-ltb _ _ c.if-lines-ge16.false)
+
+pub agree-requires : goal.agree-requires
+agree-requires c = c.requires.0
+
+pub returns-then-agree : goal.returns-then-agree
+unfolding entry_number given_number first unless
+returns-then-agree c = simp (ap agree c.requires.1 ∙ sym c.agree.ensures ∙ c.if-agree.true, not-false c.args.s.board.powered c.if-not-s.false, not-false c.sound.result c.if-not-sound.false-raw, ← c.sound.ensures, not-false c.within_limits.result c.if-not-within_limits.false-raw, ← c.within_limits.ensures, lt-ltb _ _ c.if-lines-ge16.false)
+
+pub returns-else-agree : goal.returns-else-agree
+unfolding entry_number given_number first unless
+returns-else-agree c = simp (ap agree c.requires.1 ∙ sym c.agree.ensures ∙ c.if-agree.false, not-false c.args.s.board.powered c.if-not-s.false, not-false c.sound.result c.if-not-sound.false-raw, ← c.sound.ensures, not-false c.within_limits.result c.if-not-within_limits.false-raw, ← c.within_limits.ensures, lt-ltb _ _ c.if-lines-ge16.false)

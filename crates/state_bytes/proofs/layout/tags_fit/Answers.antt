@@ -1,0 +1,7 @@
+-- `state_bytes::layout::tags_fit` meets its contract.
+-- Assumes nothing.
+use Rattle.state_bytes.proofs.TestLaws.{tags-by}
+use Rattle.state_bytes.proofs.layout.tags_fit.Goals as goal
+
+pub returns : goal.returns
+returns c = rw (c.is_flag-5.ensures, c.is_flag-4.ensures, c.is_flag-3.ensures, c.is_flag-2.ensures, c.is_flag.ensures) (tags-by _ _)

@@ -1,0 +1,34 @@
+-- `touches::orders::asked` meets its contract.
+-- Assumes nothing.
+use Rattle.attention_rules.specs.Touched.{read_by, stored_by}
+use Rattle.ground_rules.specs.Places.{span}
+use mathlib.Core.Path.{refl}
+use Rattle.touches.proofs.orders.asked.Goals as goal
+
+pub returns-in-Update : goal.returns-in-Update
+unfolding read_by stored_by span
+returns-in-Update c = λ block pb. rw (c.four.ensures, c.in-Update.is) (refl, refl)
+
+pub returns-in-StartLocal : goal.returns-in-StartLocal
+unfolding read_by stored_by span
+returns-in-StartLocal c = λ block pb. rw (c.four-in-StartLocal.ensures, c.in-StartLocal.is) (refl, refl)
+
+pub returns-in-StartSystem : goal.returns-in-StartSystem
+unfolding read_by stored_by span
+returns-in-StartSystem c = λ block pb. rw (c.four-in-StartSystem.ensures, c.in-StartSystem.is) (refl, refl)
+
+pub returns-in-Suspend : goal.returns-in-Suspend
+unfolding read_by stored_by span
+returns-in-Suspend c = λ block pb. rw (c.four-in-Suspend.ensures, c.in-Suspend.is) (refl, refl)
+
+pub returns-in-Resume : goal.returns-in-Resume
+unfolding read_by stored_by span
+returns-in-Resume c = λ block pb. rw (c.four-in-Resume.ensures, c.in-Resume.is) (refl, refl)
+
+pub returns-in-Halt : goal.returns-in-Halt
+unfolding read_by stored_by span
+returns-in-Halt c = λ block pb. rw (c.four-in-Halt.ensures, c.in-Halt.is) (refl, refl)
+
+pub returns-in-Unknown : goal.returns-in-Unknown
+unfolding read_by stored_by span
+returns-in-Unknown c = λ block pb. rw (c.four-in-Unknown.ensures, c.in-Unknown.is) (refl, refl)

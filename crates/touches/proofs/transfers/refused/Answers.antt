@@ -1,0 +1,9 @@
+-- `touches::transfers::refused` meets its contract.
+-- Assumes nothing.
+use Rattle.transfer.specs.Setups.{setup_of}
+use Rattle.transfer_rules.specs.Steps.{bad_mode}
+use Rattle.touches.proofs.transfers.refused.Goals as goal
+
+pub returns : goal.returns
+unfolding bad_mode setup_of
+returns c = rw c.requires

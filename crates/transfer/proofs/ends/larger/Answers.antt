@@ -1,0 +1,13 @@
+-- `transfer::ends/larger` meets its contract.
+-- Assumes nothing.
+use borrow.Author.Tests.{lt-ltb, le-ltb}
+use Rattle.transfer_rules.specs.Ends.{larger}
+use Rattle.transfer.proofs.ends.larger.Goals as goal
+
+pub returns-then-a-b : goal.returns-then-a-b
+unfolding larger
+returns-then-a-b c = simp (lt-ltb _ _ c.if-a-b.true)
+
+pub returns-else-a-b : goal.returns-else-a-b
+unfolding larger
+returns-else-a-b c = simp (le-ltb _ _ c.if-a-b.false)

@@ -1,0 +1,13 @@
+-- `transfer::reads/see` meets its contract.
+-- Assumes nothing.
+use borrow.Author.Rules.{rules}
+use Rattle.ground_rules.specs.Buffers.{touchable_at}
+use Rattle.transfer.proofs.reads.see.Goals as goal
+
+pub returns-then-tag : goal.returns-then-tag
+unfolding touchable_at
+returns-then-tag c = rw (c.byte-byte.ensures, c.if-tag.true)
+
+pub returns : goal.returns
+unfolding touchable_at
+returns c = rw (c.byte-byte-2.ensures, c.lent-touchable.ensures, c.if-tag.false)

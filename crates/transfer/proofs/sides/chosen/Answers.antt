@@ -1,0 +1,9 @@
+-- `transfer::sides/chosen` meets its contract.
+-- Assumes nothing.
+use Rattle.transfer.proofs.sides.chosen.Goals as goal
+
+pub returns-then-test : goal.returns-then-test
+returns-then-test c = rw c.if-test.true
+
+pub returns-else-test : goal.returns-else-test
+returns-else-test c = rw c.if-test.false

@@ -1,0 +1,76 @@
+-- `words::displaced` meets its contract: the signed sum is never below zero, since the pointer was raised by a multiple of 2 ^ 20 that no displacement undoes.
+-- Assumes nothing.
+use Rattle.std.proofs.Common.{◌≡◌, ℕ, suc, ◌+◌, ◌-◌, ◌%◌, ◌^◌, ◌<◌, T, ℤ, pos, negsuc, ◌+ℤ◌, nat_abs, refl, ap, ◌∙◌, mod-lt, mod-eq_of_lt, arith, lit<, to_z-of_z, w32, w64, Fits, SFits, to_z, of_z, rules, le-ltb}
+use lib.Signed.{mag, non_neg}
+use mir.Facts.{to_z_pos, sfits_widen}
+use Rattle.ground_rules.specs.Signs.{displaced_by}
+use Rattle.words.proofs.displaced.Goals as goal
+
+-- where the raised pointer p + 2 ^ 31 lands
+landing : ℕ → ℤ → ℕ
+landing p (pos n) = p + 2147483648 + n
+landing p (negsuc n) = p + 2147483648 - suc n
+
+-- the signed sum is that number
+lands : (p : ℕ) (z : ℤ) → mag z < 2 ^ 31 → pos (p + 2147483648) +ℤ z ≡ pos (landing p z)
+unfolding landing
+lands p (pos n) h = refl
+lands p (negsuc n) h = rw (le-ltb (p + 2147483648) (suc n) (omega arith))
+
+-- which is below 2 ^ 33
+lands-low : (p : ℕ) (z : ℤ) → p < 1048576 → mag z < 2 ^ 31 → landing p z < 2 ^ 33
+unfolding landing
+lands-low p (pos n) hp h = omega arith
+lands-low p (negsuc n) hp h = omega arith
+
+-- and in 20 bits it is the displaced pointer
+lands-at : (pointer : ℕ) (z : ℤ) → mag z < 2 ^ 31 → landing (pointer % 1048576) z % 1048576 ≡ displaced_by pointer z
+unfolding landing displaced_by
+lands-at pointer (pos n) h = omega arith
+lands-at pointer (negsuc n) h = omega arith
+
+module _ (p : ℕ) (z : ℤ) (hp : p < 1048576) (hz : SFits w32 z) where
+  -- what each operand of the sum reads back as, and their sum
+  raised : to_z w64 (of_z w64 (to_z w64 p +ℤ pos 2147483648)) ≡ pos (p + 2147483648)
+  raised =
+      let small : p < 2 ^ 63 = omega arith in
+      rw (to_z_pos w64 small) (to_z_pos w64 (omega arith))
+
+  moved : to_z w64 (of_z w64 (to_z w32 (of_z w32 z))) ≡ z
+  moved = rw (to_z-of_z {w = w32} hz) (to_z-of_z {w = w64} (sfits_widen {w = w32} {w' = w64} tt hz))
+
+  summed : to_z w64 (of_z w64 (to_z w64 p +ℤ pos 2147483648)) +ℤ to_z w64 (of_z w64 (to_z w32 (of_z w32 z))) ≡ pos (landing p z)
+  summed = rw (raised, moved) (lands p z hz.sfits)
+
+  below : landing p z < 2 ^ 63
+  below = omega (arith, lands-low p z hp hz.sfits)
+
+  whole : to_z w64 (of_z w64 (to_z w64 (of_z w64 (to_z w64 p +ℤ pos 2147483648)) +ℤ to_z w64 (of_z w64 (to_z w32 (of_z w32 z))))) ≡ pos (landing p z)
+  whole = rw summed (to_z_pos w64 below)
+
+within : (n : ℕ) → n % 1048576 < 1048576
+within n = mod-lt n (lit< tt)
+
+pub overflow_add-from : goal.overflow_add-from
+overflow_add-from c =
+    let small : c.args.pointer % 1048576 < 2 ^ 63 = omega arith in
+    rw (to_z_pos w64 small) (record { sfits = omega arith })
+
+pub overflow_cast-result : goal.overflow_cast-result
+overflow_cast-result c = rw (to_z-of_z c.ranges.by) (sfits_widen tt c.ranges.by)
+
+pub overflow_add-result : goal.overflow_add-result
+overflow_add-result c =
+    let p = c.args.pointer % 1048576 in
+    rw (summed p c.args.by (within _) c.ranges.by) (record { sfits = below p c.args.by (within _) c.ranges.by })
+
+pub overflow_cast-result-2 : goal.overflow_cast-result-2
+overflow_cast-result-2 c =
+    let p = c.args.pointer % 1048576 in
+    let low = below p c.args.by (within _) c.ranges.by in
+    rw (whole p c.args.by (within _) c.ranges.by) (tt, record { fits = omega arith })
+
+pub returns : goal.returns
+returns c =
+    ap (λ (z : ℤ). nat_abs z % 1048576) (whole (c.args.pointer % 1048576) c.args.by (within _) c.ranges.by)
+    ∙ lands-at c.args.pointer c.args.by c.ranges.by.sfits
