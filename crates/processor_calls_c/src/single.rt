@@ -33,8 +33,8 @@ pub extern "C" fn iop89_reset(state: &mut [u8]) -> u32
 // Powers the machine up.
 #[unsafe(no_mangle)]
 pub extern "C" fn iop89_power_up(state: &mut [u8], sys: &mut [u8], io: &mut [u8]) -> u32
-    ensures left { served result state.new (lent sys.exit io.exit) ≡ power_served state.old (lent sys.entry io.entry) }
-    ensures whole { length state.old ≡ state_length → state_in state.new ≡ (power_up_of (state_in state.old) (lent sys.entry io.entry)).state }
+    ensures left { served result state.new (lent sys.new io.new) ≡ power_served state.old (lent sys.old io.old) }
+    ensures whole { length state.old ≡ state_length → state_in state.new ≡ (power_up_of (state_in state.old) (lent sys.old io.old)).state }
 {
     processor_calls::single::iop89_power_up(state, sys, io)
 }
@@ -47,9 +47,9 @@ pub extern "C" fn iop89_attention(
     io: &mut [u8],
     channel: u32,
 ) -> u32
-    ensures left { served result state.new (lent sys.exit io.exit) ≡ attention_served state.old (lent sys.entry io.entry) channel }
-    ensures whole { is_state state.old ≡ true → state_in state.new ≡ (attention_of (state_in state.old) (lent sys.entry io.entry) channel).state }
-    ensures bytes { Bytes state.old × AllBytes (lent sys.entry io.entry) }
+    ensures left { served result state.new (lent sys.new io.new) ≡ attention_served state.old (lent sys.old io.old) channel }
+    ensures whole { is_state state.old ≡ true → state_in state.new ≡ (attention_of (state_in state.old) (lent sys.old io.old) channel).state }
+    ensures bytes { Bytes state.old × AllBytes (lent sys.old io.old) }
 {
     processor_calls::single::iop89_attention(state, sys, io, channel)
 }
@@ -57,9 +57,9 @@ pub extern "C" fn iop89_attention(
 // Does one step of the machine.
 #[unsafe(no_mangle)]
 pub extern "C" fn iop89_step(state: &mut [u8], sys: &mut [u8], io: &mut [u8], lines: u32) -> u32
-    ensures left { served result state.new (lent sys.exit io.exit) ≡ step_served state.old (lent sys.entry io.entry) lines }
-    ensures whole { is_state state.old ≡ true → state_in state.new ≡ (step_of (state_in state.old) (lent sys.entry io.entry) lines).state }
-    ensures bytes { Bytes state.old × AllBytes (lent sys.entry io.entry) }
+    ensures left { served result state.new (lent sys.new io.new) ≡ step_served state.old (lent sys.old io.old) lines }
+    ensures whole { is_state state.old ≡ true → state_in state.new ≡ (step_of (state_in state.old) (lent sys.old io.old) lines).state }
+    ensures bytes { Bytes state.old × AllBytes (lent sys.old io.old) }
 {
     processor_calls::single::iop89_step(state, sys, io, lines)
 }
@@ -73,7 +73,7 @@ pub extern "C" fn iop89_schedule(
     io: &mut [u8],
     report: &mut [u64],
 ) -> u32
-    ensures { scheduled result (standing state.new (lent sys.exit io.exit) report.new) ≡ schedule_served (standing state.old (lent sys.entry io.entry) report.old) rows.now }
+    ensures { scheduled result (standing state.new (lent sys.new io.new) report.new) ≡ schedule_served (standing state.old (lent sys.old io.old) report.old) rows.now }
 {
     processor_calls::single::iop89_schedule(state, rows, sys, io, report)
 }

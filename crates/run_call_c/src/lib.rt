@@ -16,7 +16,7 @@ pub extern "C" fn iop89_run(
     lines: u32,
     limit: u32,
 ) -> u32
-    ensures { called result (lent sys.exit io.exit) ≡ called (answer_of (run_of (lent sys.entry io.entry) cp channel lines limit)) (run_of (lent sys.entry io.entry) cp channel lines limit).memory }
+    ensures { called result (lent sys.new io.new) ≡ called (answer_of (run_of (lent sys.old io.old) cp channel lines limit)) (run_of (lent sys.old io.old) cp channel lines limit).memory }
 {
     run_call::iop89_run(sys, io, cp, channel, lines, limit)
 }
@@ -30,7 +30,7 @@ pub extern "C" fn iop89_board(
     lines: u32,
     limit: u32,
 ) -> u32
-    ensures { called result (lent sys.exit io.exit) ≡ called (answer_of (board_run_of (lent sys.entry io.entry) channel lines limit)) (board_run_of (lent sys.entry io.entry) channel lines limit).memory }
+    ensures { called result (lent sys.new io.new) ≡ called (answer_of (board_run_of (lent sys.old io.old) channel lines limit)) (board_run_of (lent sys.old io.old) channel lines limit).memory }
 {
     run_call::iop89_board(sys, io, channel, lines, limit)
 }

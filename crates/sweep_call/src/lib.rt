@@ -1,4 +1,6 @@
 // The sweep for C, in an object of its own: called in one place, its code is merged into the exported function.
+#![tactic(auto)]
+
 ghost use Rattle.std.specs.Prelude.{◌≡◌};
 ghost use Rattle.ground_rules.specs.Buffers.{lent};
 ghost use Rattle.state_rules.specs.Calls.{served, sweep_served};
