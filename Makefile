@@ -57,14 +57,14 @@ endif
 endif
 override BUILD := $(value BUILD)
 
-# Proofs stand in target/; where nothing may be written here, in BUILD, over a folder of links.
+# Proofs stand in crates/NAME/out/; where nothing may be written here, the crates are copied to BUILD and proved there.
 ifeq ($(shell test -w . && echo yes),yes)
-TARGET = target
+TREE = .
 else
-TARGET = $(BUILD)/tree/target
+TREE = $(BUILD)/tree
 endif
 
-export CALLER BUILD TARGET INSTALL
+export CALLER BUILD TREE INSTALL
 export IMAGE FILE DEMO SEED CASES SERVICE_CASES SWEEPS PAUSES SCHEDULES PAIRS TOUCHES TEXTS PARTS ASM_TEXTS CALLS IMAGES N FROM \
 	PREFIX DESTDIR
 
@@ -129,15 +129,15 @@ help:
 
 # Runs an image as channel 1 of a fresh machine and prints a line for each done step.
 run: option-image program-trace
-	@tools/run-program $(TARGET)/bin/trace IMAGE
+	@tools/run-program $(TREE)/crates/trace/out/trace IMAGE
 
 # Runs the same sources in seconds, without proving them, and says so.
-try: option-image x86-compiler
-	@CC="$(X86_CC)" tools/try IMAGE
+try: option-image
+	@tools/try IMAGE
 
 # Makes the calls of a script and prints their answers; docs/SCRIPT.md has the words.
 script: option-file program-script
-	@tools/run-program $(TARGET)/bin/script FILE
+	@tools/run-program $(TREE)/crates/script/out/script FILE
 
 # Runs the host program on an image, and shows the answer and every byte that changed.
 demo: option-demo x86-compiler $(BUILD)/example
@@ -164,22 +164,25 @@ option-prefix:
 
 # A program, proved and linked; nothing is done again where it stands already.
 $(PROGRAMS): program-%:
-	@tools/prove check $*
+	@tools/prove program $*
 
 # The proved library, as archives for C and shared objects.
 lib: proved-archives $(ARCHIVES) $(SHARED) $(SHARED_SERVICE)
 
-# What both archives are made of, in one go, so that two are proved at a time.
+# What both archives are made of, in one go, so that what there is to prove is told once.
 proved-archives:
-	@tools/prove staticlib $(RUN_CRATES) $(filter-out $(RUN_CRATES),$(SERVICE_CRATES))
+	@tools/prove archives $(RUN_CRATES) $(filter-out $(RUN_CRATES),$(SERVICE_CRATES))
+
+# The static library that rt leaves of a crate.
+static = $(TREE)/crates/$(1)/out/lib$(1).a
 
 # An archive is made again where a file of its crates is not what it was; their list is kept by content. The object of
 # both runs stands in both archives, the same, so that either has its calls and a program that links both has it once.
-RUN_CRATES = run_call version_call
+RUN_CRATES = run_call_c version_call
 
 $(IOP89_LIB): $(RUN_CRATES:%=$(BUILD)/%.sums)
-	@tools/prove staticlib $(RUN_CRATES)
-	@AR="$(X86_AR)" tools/join-archives $@ $(RUN_CRATES:%=$(TARGET)/staticlib/lib%.a)
+	@tools/prove archives $(RUN_CRATES)
+	@AR="$(X86_AR)" tools/join-archives $@ $(foreach crate,$(RUN_CRATES),$(call static,$(crate)))
 
 # The same as shared objects, whose names have the header's version; each exports its calls alone.
 VERSION := $(shell awk '$$2 == "IOP89_VERSION" { print int($$3 / 100) "." $$3 % 100; exit }' include/iop89.h)
@@ -206,7 +209,7 @@ install: option-prefix proved-archives $(INSTALLED)
 uninstall: option-prefix
 	@tools/install remove $(INSTALLED)
 
-# What was built; the proofs in target/ stay, since they take minutes. A folder that nothing was built in is left alone.
+# What was built; the proofs in crates/NAME/out/ stay, since they take minutes. A folder that nothing was built in is left alone.
 clean:
 	@[ "$(BUILD)" = build ] || [ ! -e "$(BUILD)" ] || [ -e "$(BUILD)/flags" ] || [ -e "$(BUILD)/prove.lock" ] || \
 		{ echo "make: BUILD is \"$(BUILD)\": nothing was built there, and it stays" >&2; exit 2; }
@@ -272,10 +275,10 @@ compare: option-cases x86-compiler $(BUILD)/compare
 	tools/x86 $(BUILD)/compare "$$SEED" "$$CASES"
 
 compare-scripts: option-calls compiler program-script $(BUILD)/scripts
-	tools/compare-scripts "$$SEED" "$$CALLS" $(TARGET)/bin/script
+	tools/compare-scripts "$$SEED" "$$CALLS" $(TREE)/crates/script/out/script
 
 compare-traces: option-images compiler program-trace $(BUILD)/scripts
-	tools/compare-traces "$$SEED" "$$IMAGES" $(TARGET)/bin/trace
+	tools/compare-traces "$$SEED" "$$IMAGES" $(TREE)/crates/trace/out/trace
 
 selftest: $(BUILD)/selftest
 	$(BUILD)/selftest
@@ -325,11 +328,11 @@ service-lib: $(SERVICE_LIB)
 # Thin crates that hold exported functions alone: what they rest on is not proved again for an archive. All else in an
 # archive is local, so they join into one. The calls of service and schedule_calls are passed on by processor_calls, so that
 # their code stands in it once; the sweep has an object of its own, which costs some bytes and saves instructions.
-SERVICE_CRATES = processor_calls sweep_call run_call text_calls touch_calls
+SERVICE_CRATES = processor_calls_c sweep_call run_call_c text_calls_c touch_calls
 
 $(SERVICE_LIB): $(SERVICE_CRATES:%=$(BUILD)/%.sums)
-	@tools/prove staticlib $(SERVICE_CRATES)
-	@AR="$(X86_AR)" tools/join-archives $@ $(SERVICE_CRATES:%=$(TARGET)/staticlib/lib%.a)
+	@tools/prove archives $(SERVICE_CRATES)
+	@AR="$(X86_AR)" tools/join-archives $@ $(foreach crate,$(SERVICE_CRATES),$(call static,$(crate)))
 
 # What the header says of a refusal beside what the archive answers and what the emulator's reader of states finds.
 $(BUILD)/causes: host/compare/causes.c $(addprefix host/emulator/,state_bytes.c state_bytes.h emulator.c emulator.h) $(HEADERS) \

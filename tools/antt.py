@@ -13,14 +13,14 @@ Declared = collections.namedtuple("Declared", "crate folder module name public k
 
 SIGNATURE = re.compile(r"((?:(?:unfoldable|abbrev|partial) )*)(pub )?([^\s(){}:]+)(?: \{[^}]*\})? :\s")
 TYPE = re.compile(r"(pub )?(record|data) (\S+)")
-IMPORT = re.compile(r"use Rattle·(\w+)(?:·\w+)?\.(specs|proofs)\.(?:(\w+)(?:\.\{([^}]*)\}| as (\S+))|\{([^}]*)\})")
+IMPORT = re.compile(r"use (Rattle(?:\.\w+)+)(?:\.\{([^}]*)\}| as (\S+))?")
 WORD = re.compile(r"[^\s(){};,λ⌜⌝]+")
 
 
 def crates():
     """The crates of crates.txt, lowest first, with those that each knows."""
     lines = [line.partition("#")[0].partition(":") for line in Path("crates.txt").read_text().splitlines()]
-    return {name.strip(): below.split() for name, colon, below in lines if colon}
+    return {name.split()[0]: below.split() for name, colon, below in lines if colon}
 
 
 def bare(text):
@@ -41,6 +41,21 @@ def pieces(text, indent, at):
     return [(place, "\n".join(lines).rstrip()) for place, lines in found]
 
 
+def brought(path, listed, alias):
+    """What a `use` line brings: pairs of a name and its place. The place of a constructor is that of its type, and what the
+    language made of a type or a function has the module `declared` or `contracts`, in which nothing is looked for."""
+    if alias or not listed:
+        parts = path.split(".")
+        return [((alias or parts[-1]) + ".", (*parts[1:4], ""))] if len(parts) > 3 else []
+    found = []
+    for item in listed.split(","):
+        old, _, new = item.strip().partition(" as ")
+        parts = f"{path}.{old}".split(".")
+        if old and len(parts) > 4:
+            found.append((new or parts[-1], tuple(parts[1:5])))
+    return found
+
+
 def declared(crate, folder, path):
     """The declarations of a file, and the places of the names that it imports."""
     text = bare(path.read_text())
@@ -50,13 +65,7 @@ def declared(crate, folder, path):
         head = piece.lstrip()
         taken, kind, sign = IMPORT.match(head), TYPE.match(head), SIGNATURE.match(head)
         if taken:
-            other, part, file, listed, alias, together = taken.groups()
-            for name in (listed or together or "").split(","):
-                old, _, new = name.strip().partition(" as ")
-                place = old.rsplit(".", 1) if together else [file, old]
-                names[new or place[-1]] = (other, part, place[0], place[-1])
-            if alias:
-                names[alias + "."] = (other, part, file, "")
+            names.update(brought(*taken.groups()))
         elif head.startswith("module "):
             inside = re.search(r"\swhere\n", piece).end()
             for place, inner in pieces(piece[inside:], 2, at + inside):
@@ -75,12 +84,13 @@ def declared(crate, folder, path):
 
 
 def used(text, names, own):
-    """The places of the declarations that a text names: what its file imports, and what it declares itself."""
+    """The places of the declarations that a text names: what its file imports, and what it declares itself, also where a field
+    is taken of it."""
     found = set()
     for word in WORD.findall(text):
-        alias, _, last = word.partition(".")
-        if word in own or word in names:
-            found.add(own.get(word) or names[word])
-        elif last and alias + "." in names:
-            found.add(names[alias + "."][:3] + (last,))
+        first, _, last = word.partition(".")
+        if last and first + "." in names:
+            found.add(names[first + "."][:3] + (last.partition(".")[0],))
+        elif first in own or first in names:
+            found.add(own.get(first) or names[first])
     return found

@@ -1,0 +1,36 @@
+// Both runs for C, passed on as they are, in one object, so that the code which they share stands in it once.
+#![tactic(auto)]
+
+ghost use Rattle.std.specs.Prelude.{◌≡◌};
+ghost use Rattle.ground_rules.specs.Buffers.{lent};
+ghost use Rattle.run_rules.specs.Run.{run_of, answer_of, called};
+ghost use Rattle.run_rules.specs.Board.{board_run_of};
+
+// A run of a channel: number × 65,536 + steps done.
+#[unsafe(no_mangle)]
+pub extern "C" fn iop89_run(
+    sys: &mut [u8],
+    io: &mut [u8],
+    cp: u32,
+    channel: u32,
+    lines: u32,
+    limit: u32,
+) -> u32
+    ensures { called result (lent sys.new io.new) ≡ called (answer_of (run_of (lent sys.old io.old) cp channel lines limit)) (run_of (lent sys.old io.old) cp channel lines limit).memory }
+{
+    run_call::iop89_run(sys, io, cp, channel, lines, limit)
+}
+
+// A run of a channel from reset and power-up on: number × 65,536 + steps done.
+#[unsafe(no_mangle)]
+pub extern "C" fn iop89_board(
+    sys: &mut [u8],
+    io: &mut [u8],
+    channel: u32,
+    lines: u32,
+    limit: u32,
+) -> u32
+    ensures { called result (lent sys.new io.new) ≡ called (answer_of (board_run_of (lent sys.old io.old) channel lines limit)) (board_run_of (lent sys.old io.old) channel lines limit).memory }
+{
+    run_call::iop89_board(sys, io, channel, lines, limit)
+}
