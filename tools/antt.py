@@ -56,6 +56,12 @@ def brought(path, listed, alias):
     return found
 
 
+def named(text):
+    """The places that a file's `use` lines name: crate, part and module of each."""
+    taken = [IMPORT.search(piece) for _, piece in pieces(bare(text), 0, 0) if re.match(r"(pub )?use Rattle\b", piece)]
+    return {place[:3] for found in taken for _, place in brought(*found.groups())}
+
+
 def declared(crate, folder, path):
     """The declarations of a file, and the places of the names that it imports."""
     text = bare(path.read_text())

@@ -10,11 +10,11 @@ import re
 
 import antt
 
-TOKEN = re.compile(r'"[^"]*"|\[\]|[(){};]|[^\s(){};"]+')
+TOKEN = re.compile(r'"[^"]*"|\[\]|[(){};]|\.[^\s(){};".]*|[^\s(){};".]+')
 NO_ATOM = set("+ - * / % ^ && || ∷ ++ ≡ × ⊎ → = < ≤ ¬ in let λ then else ) } ; {".split())
 TWINS = {"ltb": "leb", "leb": "ltb", "<": "≤", "≤": "<"}
 LOGIC = {"&&": "||", "||": "&&", "×": "⊎", "⊎": "×", "true": "false", "false": "true"}
-OPERATORS = {"/": "%", "%": "/", "+": "-", "-": "+", "*": "+", "bitAnd": "bitOr", "bitOr": "bitAnd"}
+OPERATORS = {"/": "%", "%": "/", "+": "-", "-": "+", "*": "+", "bit_and": "bit_or", "bit_or": "bit_and"}
 CHAINS = [("test", {"&&", "||"}), ("test", {"×", "⊎"}), ("list", {"∷"}), ("list", {"++"})]
 
 Change = collections.namedtuple("Change", "kind start end new")
@@ -88,12 +88,13 @@ class Clause:
                 self.pair[i], self.pair[j] = j, i
 
     def after(self, i):
-        """The token after the atom at i, or none where no atom is there."""
+        """The token after the atom at i with the fields that are taken of it, or none where no atom is there."""
         if i >= len(self.tokens) or self.tokens[i][0] in NO_ATOM or self.tokens[i][0].startswith("."):
             return None
-        if self.tokens[i][0] == "record":
-            return self.pair.get(i + 1, i) + 1
-        return self.pair.get(i, i) + 1
+        k = self.pair.get(i + 1, i) + 1 if self.tokens[i][0] == "record" else self.pair.get(i, i) + 1
+        while k < len(self.tokens) and self.tokens[k][0].startswith(".") and self.tokens[k][1] == self.tokens[k - 1][2]:
+            k += 1
+        return k
 
     def arguments(self, i):
         """The atoms behind i, each from one token to another."""
@@ -136,7 +137,7 @@ def by_token(clause, i, scope, types, alike):
         yield one("comparison", TWINS[word])
     if word in LOGIC:
         yield one("logic", LOGIC[word])
-    if word in OPERATORS and (OPERATORS[word] in scope or "_" + OPERATORS[word] + "_" in scope):
+    if word in OPERATORS and (OPERATORS[word] in scope or "◌" + OPERATORS[word] + "◌" in scope):
         yield one("operator", OPERATORS[word])
     if word == "%" and i and clause.after(i + 1):
         last = clause.tokens[clause.after(i + 1) - 1]
