@@ -3,7 +3,8 @@
 use Prim.Native.Nat.{ℕ}
 use lib.ListN.{length, get_or}
 use mathlib.Core.List.{List, [], ◌∷◌}
-use mathlib.Core.Path.{◌≡◌, sym}
+use mathlib.Core.Bool.{not}
+use mathlib.Core.Path.{◌≡◌, sym, ap}
 use native.Mathlib.Omega.{arith}
 use Rattle.prom_rules.proofs.DigitLaws.{digit-most}
 use Rattle.prom.proofs.RecordLaws.{no-colon, run_end, line-not-ended, line-wrong-count, line-check, line-kind}
@@ -27,7 +28,7 @@ pub ends-requires : goal.ends-requires
 ends-requires c = run_end c.args.text.now c.if-text-ne58.false c.run-digits.result.count c.run-digits.ensures.0
 
 pub returns-then-not-ends : goal.returns-then-not-ends
-returns-then-not-ends c = line-not-ended c.args.text.now c.if-text-ne58.false c.run-digits.result.count c.run-digits.ensures.0 c.ends.result c.ends.ensures c.if-not-ends.true-raw
+returns-then-not-ends c = line-not-ended c.args.text.now c.if-text-ne58.false c.run-digits.result.count c.run-digits.ensures.0 c.ends.result c.ends.ensures (ap not c.if-not-ends.true)
 
 pub overflow_add-size : goal.overflow_add-size
 overflow_add-size c = let t = c.args.text.now in
@@ -38,11 +39,11 @@ overflow_mul-size c = let t = c.args.text.now in
     omega (arith, c.pair-size.ensures, digit-most (get_or t 1 0), digit-most (get_or t 2 0))
 
 pub returns-then-digits-size : goal.returns-then-digits-size
-returns-then-digits-size c = line-wrong-count c.args.text.now c.if-text-ne58.false c.run-digits.result.count c.run-digits.ensures.0 c.ends.result c.ends.ensures c.if-not-ends.false-raw
+returns-then-digits-size c = line-wrong-count c.args.text.now c.if-text-ne58.false c.run-digits.result.count c.run-digits.ensures.0 c.ends.result c.ends.ensures (ap not c.if-not-ends.false)
     c.pair-size.result c.pair-size.ensures c.if-digits-size.true
 
 pub returns-then-digits-ne0 : goal.returns-then-digits-ne0
-returns-then-digits-ne0 c = line-check c.args.text.now c.if-text-ne58.false c.run-digits.result.count c.run-digits.ensures.0 c.ends.result c.ends.ensures c.if-not-ends.false-raw
+returns-then-digits-ne0 c = line-check c.args.text.now c.if-text-ne58.false c.run-digits.result.count c.run-digits.ensures.0 c.ends.result c.ends.ensures (ap not c.if-not-ends.false)
     c.pair-size.result c.pair-size.ensures c.if-digits-size.false c.run-digits.result.sum c.run-digits.ensures.1 c.if-digits-ne0.true
 
 pub pair-requires : goal.pair-requires
@@ -50,10 +51,10 @@ pair-requires c = omega (arith, run_end c.args.text.now c.if-text-ne58.false c.r
 
 pub returns-then-fits : goal.returns-then-fits
 returns-then-fits c = rw c.if-fits.true at
-    (line-kind c.args.text.now c.if-text-ne58.false c.run-digits.result.count c.run-digits.ensures.0 c.ends.result c.ends.ensures c.if-not-ends.false-raw
+    (line-kind c.args.text.now c.if-text-ne58.false c.run-digits.result.count c.run-digits.ensures.0 c.ends.result c.ends.ensures (ap not c.if-not-ends.false)
     c.pair-size.result c.pair-size.ensures c.if-digits-size.false c.run-digits.result.sum c.run-digits.ensures.1 c.if-digits-ne0.false c.pair.result c.fits.result c.pair.ensures c.fits.ensures)
 
 pub returns-else-fits : goal.returns-else-fits
 returns-else-fits c = rw c.if-fits.false at
-    (line-kind c.args.text.now c.if-text-ne58.false c.run-digits.result.count c.run-digits.ensures.0 c.ends.result c.ends.ensures c.if-not-ends.false-raw
+    (line-kind c.args.text.now c.if-text-ne58.false c.run-digits.result.count c.run-digits.ensures.0 c.ends.result c.ends.ensures (ap not c.if-not-ends.false)
     c.pair-size.result c.pair-size.ensures c.if-digits-size.false c.run-digits.result.sum c.run-digits.ensures.1 c.if-digits-ne0.false c.pair.result c.fits.result c.pair.ensures c.fits.ensures)

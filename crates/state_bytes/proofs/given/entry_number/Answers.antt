@@ -13,23 +13,23 @@ returns-then-lines-ge16 c = simp (le-ltb _ _ c.if-lines-ge16.true, le-leb _ _ c.
 
 pub returns-then-not-within_limits : goal.returns-then-not-within_limits
 unfolding entry_number given_number first unless
-returns-then-not-within_limits c = simp (not-true c.within_limits.result c.if-not-within_limits.true-raw, ← c.within_limits.ensures, lt-ltb _ _ c.if-lines-ge16.false)
+returns-then-not-within_limits c = simp (c.if-not-within_limits.true, ← c.within_limits.ensures, lt-ltb _ _ c.if-lines-ge16.false)
 
 pub returns-then-not-sound : goal.returns-then-not-sound
 unfolding entry_number given_number first unless
-returns-then-not-sound c = simp (not-true c.sound.result c.if-not-sound.true-raw, ← c.sound.ensures, not-false c.within_limits.result c.if-not-within_limits.false-raw, ← c.within_limits.ensures, lt-ltb _ _ c.if-lines-ge16.false)
+returns-then-not-sound c = simp (c.if-not-sound.true, ← c.sound.ensures, c.if-not-within_limits.false, ← c.within_limits.ensures, lt-ltb _ _ c.if-lines-ge16.false)
 
 pub returns-then-not-s : goal.returns-then-not-s
 unfolding entry_number given_number first unless
-returns-then-not-s c = simp (not-true c.args.s.board.powered c.if-not-s.true, not-false c.sound.result c.if-not-sound.false-raw, ← c.sound.ensures, not-false c.within_limits.result c.if-not-within_limits.false-raw, ← c.within_limits.ensures, lt-ltb _ _ c.if-lines-ge16.false)
+returns-then-not-s c = simp (not-true c.args.s.board.powered c.if-not-s.true, c.if-not-sound.false, ← c.sound.ensures, c.if-not-within_limits.false, ← c.within_limits.ensures, lt-ltb _ _ c.if-lines-ge16.false)
 
 pub agree-requires : goal.agree-requires
 agree-requires c = c.requires.0
 
 pub returns-then-agree : goal.returns-then-agree
 unfolding entry_number given_number first unless
-returns-then-agree c = simp (ap agree c.requires.1 ∙ sym c.agree.ensures ∙ c.if-agree.true, not-false c.args.s.board.powered c.if-not-s.false, not-false c.sound.result c.if-not-sound.false-raw, ← c.sound.ensures, not-false c.within_limits.result c.if-not-within_limits.false-raw, ← c.within_limits.ensures, lt-ltb _ _ c.if-lines-ge16.false)
+returns-then-agree c = simp (ap agree c.requires.1 ∙ sym c.agree.ensures ∙ c.if-agree.true, not-false c.args.s.board.powered c.if-not-s.false, c.if-not-sound.false, ← c.sound.ensures, c.if-not-within_limits.false, ← c.within_limits.ensures, lt-ltb _ _ c.if-lines-ge16.false)
 
 pub returns-else-agree : goal.returns-else-agree
 unfolding entry_number given_number first unless
-returns-else-agree c = simp (ap agree c.requires.1 ∙ sym c.agree.ensures ∙ c.if-agree.false, not-false c.args.s.board.powered c.if-not-s.false, not-false c.sound.result c.if-not-sound.false-raw, ← c.sound.ensures, not-false c.within_limits.result c.if-not-within_limits.false-raw, ← c.within_limits.ensures, lt-ltb _ _ c.if-lines-ge16.false)
+returns-else-agree c = simp (ap agree c.requires.1 ∙ sym c.agree.ensures ∙ c.if-agree.false, not-false c.args.s.board.powered c.if-not-s.false, c.if-not-sound.false, ← c.sound.ensures, c.if-not-within_limits.false, ← c.within_limits.ensures, lt-ltb _ _ c.if-lines-ge16.false)

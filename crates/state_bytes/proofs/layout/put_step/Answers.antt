@@ -2,6 +2,7 @@
 -- Assumes nothing.
 use mathlib.Core.Path.{◌∙◌}
 use native.Mathlib.Omega.{arith}
+use Rattle.std.proofs.Common.{rules}
 use Rattle.state_rules.proofs.CallLaws.{state-length}
 use Rattle.state_rules.proofs.BlockLaws.{block_inside, put-done}
 use Rattle.state_bytes.proofs.layout.put_step.Goals as goal
@@ -18,6 +19,6 @@ pub returns : goal.returns
 returns c =
     let both =
     let a = c.args in
-    put-done a.bytes.now (λ i. omega (arith, c.slice_known-1.given i)) c.requires a.second a.c c.put_channel.ensures.fits _
+    put-done a.bytes.now (λ i. search rules) c.requires a.second a.c c.put_channel.ensures.fits _
     (c.put_channel.ensures.put ∙ rw (c.block_at.ensures, c.put.ensures, c.flag_byte.ensures)) in
     record { put = both.0; whole = both.1 }

@@ -2,6 +2,7 @@
 -- Assumes nothing.
 use mathlib.Core.Path.{◌∙◌}
 use native.Mathlib.Omega.{arith}
+use Rattle.std.proofs.Common.{rules}
 use Rattle.state_rules.proofs.CallLaws.{state-length}
 use Rattle.state_rules.proofs.BlockLaws.{block_inside}
 use Rattle.state_bytes.proofs.PutLaws.{turned-put}
@@ -16,6 +17,6 @@ put-requires c = rw (c.put_agreeing.auto.bytes ∙ state-length c.args.bytes.now
 pub returns : goal.returns
 returns c =
     let both =
-    turned-put c.args.bytes.now (λ i. omega (arith, c.slice_known-1.given i)) c.requires.0 c.args.second c.args.c c.put_agreeing.ensures.fits c.requires.1 c.requires.2 _
+    turned-put c.args.bytes.now (λ i. search rules) c.requires.0 c.args.second c.args.c c.put_agreeing.ensures.fits c.requires.1 c.requires.2 _
     (c.put.ensures ∙ rw (c.flag_byte.ensures, c.put_agreeing.ensures.put, c.block_at.ensures)) in
     record { put = both.0; whole = both.1 }
