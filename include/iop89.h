@@ -1,9 +1,10 @@
 /*
  * The call by which a host program runs the proved stand-in for the 8089 I/O processor, and what it answers.
  *
- * For C99 and later and C++. The archive, libiop89.a, is for x86-64 Linux (System V calling convention); it can be
- * linked into position-independent programs, needs nothing of any library and no start-up, nor does libiop89_service.a, and
- * keeps nothing between calls, so that threads may call it at the same time, each with buffers of its own.
+ * For C99 and later and C++. The archive, libiop89.a, is for x86-64 Linux (System V calling convention) on a processor that
+ * has SSE4.1 (x86-64-v2); it can be linked into position-independent programs, needs nothing of any library and no start-up,
+ * nor does libiop89_service.a, and keeps nothing between calls, so that threads may call it at the same time, each with
+ * buffers of its own.
  */
 #ifndef IOP89_H
 #define IOP89_H
