@@ -11,7 +11,6 @@ ghost use Rattle.script.specs.Lines.{content_end, closes_file, file_end};
 use script_text::text;
 use script_text::text::ScriptCall;
 use std::io;
-use std::io::Read;
 
 // How many bytes of each buffer are lent.
 #[derive(Clone, Copy)]
@@ -160,19 +159,19 @@ fn feeds(text: &[u8]) -> usize
     count
 }
 
-// Says a line of words on standard error.
-fn say(rt: HostRuntime, words: &str) -> io::Result<()> {
-    eprintln!(rt; "{words}")
+// Says a line of words on standard error; where that cannot be written, nothing.
+fn say(rt: HostRuntime, words: &str) {
+    let _ = eprintln!(rt; "{words}");
 }
 
 // Says which line, counted from 1, was no call, or was shut out.
-fn complain(rt: HostRuntime, number: usize, call: ScriptCall) -> io::Result<()> {
+fn complain(rt: HostRuntime, number: usize, call: ScriptCall) {
     let why = match call {
         ScriptCall::Put(_, _) => "a byte past the buffer's end",
         ScriptCall::Listing(_, _, _) => "no part of the buffer, or one of more than 1024 bytes",
         _ => "no call",
     };
-    eprintln!(rt; "line {number}: {why}")
+    let _ = eprintln!(rt; "line {number}: {why}");
 }
 
 // Makes the calls of a text, line by line, and writes out what each shows.
@@ -210,7 +209,7 @@ fn play(rt: HostRuntime, text: &[u8], sys: &mut [u8], io: &mut [u8]) -> io::Resu
         let count = r.count;
         rt.write_all(&out[..count])?;
         if !r.made {
-            complain(rt, number, call)?;
+            complain(rt, number, call);
         }
         number += feeds(&text[at..next_at]);
         let next = r.state;
@@ -242,13 +241,14 @@ fn small_space() -> [u8; 65537]
 }
 
 fn main(rt: HostRuntime) -> io::Result<()> {
-    let mut text = Vec::new(rt.alloc());
-    rt.stdin().take(1048577).read_to_end(&mut text)?;
-    if 1048576 < text.len() {
-        println!(rt; "?")?;
-        return say(rt, "the text is longer than 1048576 bytes");
-    }
+    let mut text = large_space();
     let mut sys = large_space();
     let mut io = small_space();
-    play(rt, text.as_slice(), &mut sys, &mut io)
+    let length = input::read_full(&mut rt.stdin(), &mut text)?;
+    if 1048576 < length {
+        println!(rt; "?")?;
+        say(rt, "the text is longer than 1048576 bytes");
+        return Ok(());
+    }
+    play(rt, &text[..length], &mut sys, &mut io)
 }

@@ -1,16 +1,20 @@
--- What is read of the bytes that are left.
-use mathlib.Core.Path.{subst}
-use Rattle.std.specs.Prelude.{List, [], ◌++◌, ◌≡◌, ℕ, take, IfSome, None, Some, Option, option_map}
+-- What is said of an image holds of the first bytes that were left, where these are what was read.
+use Rattle.std.proofs.Common.{◌≡◌, ℕ, List, take, None, Some, Option, IfSome, Result, Ok, Err, IfOk, OnOk, ap, ◌∙◌, subst}
 
--- all of the first bytes are the first of all
-first-of-all : (left : Option (List ℕ)) (limit : ℕ) (items : List ℕ) → IfSome (option_map (take limit) left) (λ xs. items ≡ [] ++ xs)
-    → IfSome left (λ xs. items ≡ take limit xs)
-first-of-all None limit items h = h
-first-of-all (Some xs) limit items h = h
+-- of any fact
+first-bytes : (known : Option (List ℕ)) (P : List ℕ → Type 0) (image : List ℕ) (long most : ℕ) → long ≡ most → IfSome known (λ left. image ≡ take long left) → P image
+    → IfSome known (λ left. P (take most left))
+first-bytes None P image long most limited read h = tt
+first-bytes (Some left) P image long most limited read h = subst P (read ∙ ap (λ n. take n left) limited) h
 
--- what was read to the end of so many bytes that a reader has left are the first of these
-pub first_read : {R : Type 0} (remaining : R → Option (List ℕ)) (input inner : R) (limit most : ℕ) (was items : List ℕ) → limit ≡ most
-    → inner ≡ input → was ≡ [] → IfSome (option_map (take limit) (remaining inner)) (λ xs. items ≡ was ++ xs)
-    → IfSome (remaining input) (λ left. items ≡ take most left)
-first_read remaining input inner limit most was items limited same empty h =
-    first-of-all (remaining input) most items (subst (λ w. IfSome (option_map (take most) (remaining input)) (λ xs. items ≡ w ++ xs)) empty (subst (λ i. IfSome (option_map (take most) (remaining i)) (λ xs. items ≡ was ++ xs)) same (subst (λ l. IfSome (option_map (take l) (remaining inner)) (λ xs. items ≡ was ++ xs)) limited h)))
+-- of a fact at an answer that is none of an error's
+pub first_text : {E : Type 0} (r : Result ℕ E) (known : Option (List ℕ)) (P : List ℕ → Type 0) (image : List ℕ) (long most : ℕ) → long ≡ most
+    → IfSome known (λ left. image ≡ take long left) → OnOk r (P image) → OnOk r (IfSome known (λ left. P (take most left)))
+first_text (Ok n) known P image long most limited read h = first-bytes known P image long most limited read h
+first_text (Err e) known P image long most limited read h = tt
+
+-- of the number that is answered
+pub first_number : {E : Type 0} (r : Result ℕ E) (known : Option (List ℕ)) (f : List ℕ → ℕ) (image : List ℕ) (long most : ℕ) → long ≡ most
+    → IfSome known (λ left. image ≡ take long left) → IfOk r (λ number. number ≡ f image) → IfOk r (λ number. IfSome known (λ left. number ≡ f (take most left)))
+first_number (Ok n) known f image long most limited read h = first-bytes known (λ l. n ≡ f l) image long most limited read h
+first_number (Err e) known f image long most limited read h = tt

@@ -5,20 +5,8 @@ ghost use Rattle.std.specs.Prelude.{◌≡◌, IfOk, IfSome, OnOk, take};
 ghost use Rattle.std.specs.Io.KnownBytes.{Appends};
 ghost use Rattle.trace_text.specs.Trace.{trace_of, traced_run};
 
-use std::alloc::Global;
 use std::io;
 use std::io::{Read, Write};
-
-// The bytes that a reader has left, 4,097 of them at most: one more than an image may have.
-fn image_of<R: Read>(alloc: Global, input: R) -> io::Result<Vec<u8>>
-where
-    R: Drop,
-    ensures { IfOk result (λ image. IfSome (R.remaining input) (λ left. image.items ≡ take 4097 left)) }
-{
-    let mut image = Vec::new(alloc);
-    input.take(4097).read_to_end(&mut image)?;
-    Ok(image)
-}
 
 // Puts the trace of an image behind what a writer has, and answers the number of the run.
 fn show<W: Write>(image: &mut [u8], out: &mut W) -> io::Result<u32>
@@ -32,23 +20,24 @@ fn show<W: Write>(image: &mut [u8], out: &mut W) -> io::Result<u32>
 }
 
 // Traces the image that a reader has left, puts the text behind what a writer has, and answers the number of the run.
-fn traced<R: Read, W: Write>(alloc: Global, input: R, out: &mut W) -> io::Result<u32>
+fn traced<R: Read, W: Write>(mut input: R, out: &mut W) -> io::Result<u32>
 where
     R: Drop,
     ensures text { OnOk result (IfSome (R.remaining input) (λ left. Appends (W.contents out.old) (W.contents out.new) (trace_of (take 4097 left)))) }
     ensures number { IfOk result (λ number. IfSome (R.remaining input) (λ left. number ≡ (traced_run (take 4097 left)).number)) }
 {
-    let mut image = image_of(alloc, input)?;
-    show(image.as_mut_slice(), out)
+    let mut image = [0u8; 4097];
+    let count = input::read_full(&mut input, &mut image)?;
+    show(&mut image[..count], out)
 }
 
-// Says a line of words on standard error.
-fn say(rt: HostRuntime, words: &str) -> io::Result<()> {
-    eprintln!(rt; "{words}")
+// Says a line of words on standard error; where that cannot be written, nothing.
+fn say(rt: HostRuntime, words: &str) {
+    let _ = eprintln!(rt; "{words}");
 }
 
 // Says what a number means (§3.1); nothing where the run came to its limit. 8, 10 and 12 never come from a trace.
-fn explain(rt: HostRuntime, number: u32) -> io::Result<()> {
+fn explain(rt: HostRuntime, number: u32) {
     match number {
         1 => say(rt, "no channel can run"),
         2 => say(
@@ -68,11 +57,12 @@ fn explain(rt: HostRuntime, number: u32) -> io::Result<()> {
         7 => say(rt, "refused: 7, a resume, and the channel is not suspended"),
         9 => say(rt, "refused: 9, a suspend, and the channel is not running"),
         11 => say(rt, "refused: 11, the image is longer than 4096 bytes"),
-        _ => Ok(()),
+        _ => {}
     }
 }
 
 fn main(rt: HostRuntime) -> io::Result<()> {
-    let number = traced(rt.alloc(), rt.stdin(), &mut rt.stdout())?;
-    explain(rt, number)
+    let number = traced(rt.stdin(), &mut rt.stdout())?;
+    explain(rt, number);
+    Ok(())
 }
