@@ -1,5 +1,6 @@
 -- Lines by their places, labels in two arrays, and what the passes come to.
 -- Assumes nothing.
+use Rattle.std.specs.Prelude.{Option, Some, None, IfSome, Result, is_some}
 use mathlib.Core.Path.{◌≡◌, refl, sym, ap, subst, ◌∙◌}
 use mathlib.Core.Bool.{Bool, true, false, not, ◌&&◌, false≢true}
 use mathlib.Core.List.{List, [], ◌∷◌, ◌++◌, append_assoc, append-nil}
@@ -17,7 +18,8 @@ use borrow.Rule.Slice.PartMut.{put_mid, Post-is}
 use Rattle.ground_rules.specs.Choice.{pick}
 use Rattle.assembly_rules.specs.Text.{capital_of, capitals, is_digit, is_capital, is_run, ends_line, Begun, begun, in_front_of, begun_by, tokens_of, all_of, ahead, cut_at, lines_in}
 use Rattle.assembly_rules.specs.Sums.{Label, label, label_worth}
-use Rattle.assembly_rules.specs.Statements.{Headed, statement_of, statement_size, statement_number, statement_bytes}
+use Rattle.assembly_rules.specs.Statements.{Headed, Statement, statement_of, statement_size, statement_number, statement_bytes, items_known, names_known}
+use Rattle.assembly_rules.specs.Statements.Statement.{refused}
 use Rattle.assembly_rules.specs.Assembly.{Said, said_by, said_in, is_reserved, may_keep, kept_with, labels_from, label_stands, past_room, line_number, assemble_of, assembled_into}
 use Rattle.assembly_rules.proofs.WholeLaws.{kept-once}
 use Rattle.assembly_rules.proofs.LabelLaws.{labels-reduced, labels-grow}
@@ -25,14 +27,22 @@ use Rattle.assembly_rules.proofs.PassLaws.{Failed, failed, failed_from, bytes_fr
 use Rattle.assembly_rules.proofs.ByteLaws.{are_bytes, bytes-parts, said-stores}
 use Rattle.assembly_rules.proofs.WritingLaws.{both_left, both_right}
 use Rattle.assembly_rules.proofs.SizeLaws.{statement-sized}
-use Rattle.assembler_text.specs.Places.{leading, between, name_at, labels_at}
+use Rattle.assembler_text.specs.Places.{leading, between, name_at, labels_at, address_worth}
+use Rattle.assembly_rules.specs.declared.Worth.{Worth}
 use Rattle.assembler_text.proofs.PlaceLaws.{from-here}
 use Rattle.assembler_text.proofs.NameLaws.{capitals-length}
+use Rattle.assembler_forms.specs.Rows.{left_behind}
+use Rattle.assembler_lines.specs.declared.bodies.NameSpan.{NameSpan}
 use Rattle.assembler_lines.specs.declared.bodies.Head.{Head}
-use Rattle.assembler_lines.specs.Bodies.{HeadIs}
+use Rattle.assembler_lines.specs.declared.bodies.Body.{Body}
+use Rattle.assembler_lines.specs.declared.bodies.Body.TheVariants.{Blank, Items, Instruction}
+use Rattle.assembler_lines.specs.declared.bodies.LineRefusal.{LineRefusal}
+use Rattle.assembler_lines.specs.declared.bodies.LineRefusal.TheVariants.{UnknownWord, UnknownForm, TooDeep, UnknownName, OutOfRange, NoRoom}
+use Rattle.assembler_lines.specs.Bodies.{line_refusal_number, span_name, SpanIs, HeadIs, Says, BodyIs}
 use Rattle.assembler_bytes.specs.Laid.{bytes_laid}
-use Rattle.assembler.specs.declared.passes.Failure.{Failure}
-use Rattle.assembler.specs.Passes.{label_name, Fitting, in_line, line_stop, said_at, said_from, labels_in, behind, FailureIs, capped_count, assembly_word}
+use Rattle.assembler.specs.declared.lines.LineRead.{LineRead}
+use Rattle.assembler.specs.declared.passes.Refused.{Refused}
+use Rattle.assembler.specs.Passes.{in_line, line_stop, line_next, said_at, said_from, said_to, LineIs, labels_in, behind, capped_count, assembly_word}
 
 -- a line feed ends a line
 front-feed : (c : ℕ) (b : Begun) → c ≡ 10 → in_front_of c b ≡ begun [] []
@@ -127,8 +137,14 @@ module _ (kept : List Label) (name : List ℕ) where
   unfolding may_keep
   keep-long h = rw (lt-leb (length name) 12 h)
 
-  pub keep_known : (label_worth kept name).known ≡ true → false ≡ may_keep kept name
-  keep_known h = sym (kept-once kept name h)
+  -- a name with an address is a label's
+  address-known : (a : Option ℕ) → address_worth a ≡ label_worth kept name → is_some a ≡ (label_worth kept name).known
+  unfolding address_worth
+  address-known None e = ap (λ (w : Worth). w.known) e
+  address-known (Some n) e = ap (λ (w : Worth). w.known) e
+
+  pub keep_known : (a : Option ℕ) → address_worth a ≡ label_worth kept name → is_some a ≡ true → false ≡ may_keep kept name
+  keep_known a e h = sym (kept-once kept name (sym (address-known a e) ∙ h))
 
   pub keep-reserved : is_reserved name ≡ true → false ≡ may_keep kept name
   unfolding may_keep
@@ -139,9 +155,9 @@ module _ (kept : List Label) (name : List ℕ) where
       go true false = refl
       go false b = refl
 
-  pub keep-may : length name ≤ 12 → (label_worth kept name).known ≡ false → is_reserved name ≡ false → (n : ℕ) → n ≡ length kept → ltb n 64 ≡ may_keep kept name
+  pub keep-may : length name ≤ 12 → (a : Option ℕ) → address_worth a ≡ label_worth kept name → is_some a ≡ false → is_reserved name ≡ false → (n : ℕ) → n ≡ length kept → ltb n 64 ≡ may_keep kept name
   unfolding may_keep
-  keep-may h k r n e = rw (le-leb (length name) 12 h, k, r, e)
+  keep-may h a k o r n e = rw (le-leb (length name) 12 h, sym (address-known a k) ∙ o, r, e)
 
 -- the labels with one that may be kept, and without
 pub keep-not : (kept : List Label) (address : ℕ) (name : List ℕ) → may_keep kept name ≡ false → kept_with kept address name ≡ kept
@@ -154,66 +170,83 @@ unfolding kept_with
 keep_one kept address [] h k = absurd (omega arith)
 keep_one kept address (c ∷ cs) h k = rw k
 
-pub no_name : (text : List ℕ) (h : Head) → h.labelled ≡ false → label_name text h ≡ []
-no_name text h e = rw e
-
-pub a-name : (text : List ℕ) (h : Head) → h.labelled ≡ true → label_name text h ≡ capitals (between text h.from h.to)
-a-name text h e = rw e
-
 -- a label that a line has, in the arrays
-module _ (text : List ℕ) (h : Head) (fits : Fitting text h) (labelled : h.labelled ≡ true) (kept : List Label) (address : ℕ) where
-  pub kept_same : may_keep kept (capitals (between text h.from h.to)) ≡ false → kept ≡ kept_with kept address (label_name text h)
-  kept_same e = sym (ap (kept_with kept address) (a-name text h labelled) ∙ keep-not kept address (capitals (between text h.from h.to)) e)
+module _ (text : List ℕ) (name : NameSpan) (fits : SpanIs text name) (kept : List Label) (address : ℕ) where
+  pub kept_same : may_keep kept (capitals (between text name.from name.to)) ≡ false → kept ≡ kept_with kept address (capitals (between text name.from name.to))
+  kept_same e = sym (keep-not kept address (capitals (between text name.from name.to)) e)
 
-  pub kept_more : may_keep kept (capitals (between text h.from h.to)) ≡ true → kept ++ (label (name_at text h.from) address ∷ []) ≡ kept_with kept address (label_name text h)
-  kept_more e =
-      let some = fits.some labelled in
-      rw (fits.name labelled) (sym (ap (kept_with kept address) (a-name text h labelled) ∙ keep_one kept address (capitals (between text h.from h.to)) (omega (arith, name-length text h.from h.to some (fits.inside labelled))) e))
+  pub kept_more : may_keep kept (capitals (between text name.from name.to)) ≡ true → kept ++ (label (name_at text name.from) address ∷ []) ≡ kept_with kept address (capitals (between text name.from name.to))
+  kept_more e = rw fits.name (sym (keep_one kept address (capitals (between text name.from name.to)) (omega (arith, name-length text name.from name.to fits.some fits.inside, fits.some)) e))
 
 -- what is read of a line's front is what it says
-pub said-head : (text : List ℕ) (at : ℕ) (h : Head) → HeadIs text at h → said_at text at ≡ record { name = label_name text h; statement = statement_of (tokens_of (drop h.body text)) }
+said-head : (text : List ℕ) (at : ℕ) (h : Head) → HeadIs text at h → said_at text at ≡ record { name = span_name text h.label; statement = statement_of (tokens_of (drop h.body text)) }
 unfolding said_at
 said-head text at h is = ap (λ (x : Headed). record { name = x.name; statement = statement_of x.body }) is.line
 
-pub fitting : (text : List ℕ) (at : ℕ) (h : Head) → HeadIs text at h → Fitting text h
-fitting text at h is = record { some = is.some; inside = is.inside; name = is.name }
+-- the lines from a place on: the first, and those behind it
+said-split : (text : List ℕ) (at : ℕ) → said_from text at ≡ said_at text at ∷ said_to text (line_next text at)
+unfolding line_next
+said-split text at = go (ltb (line_stop text at) (length text)) refl
+  where
+    go : (b : Bool) → ltb (line_stop text at) (length text) ≡ b → said_from text at ≡ said_at text at ∷ said_to text (pick b (Some (line_stop text at + 1)) None)
+    go true e = said-next text at _ refl (ltb-true (line_stop text at) (length text) e)
+    go false e = said-last text at _ refl (ltb-false (line_stop text at) (length text) e)
 
--- one line of the first pass: the last, and one that others follow
-module _ (text : List ℕ) (at : ℕ) (h : Head) (is : HeadIs text at h) (kept : List Label) (address : ℕ) (small : address < 65536) where
-  pub labels-last : said_from text at ≡ said_at text at ∷ [] → labels_from kept address (said_from text at) ≡ kept_with kept address (label_name text h)
-  unfolding labels_from
-  labels-last e = ap (labels_from kept address) (e ∙ ap (λ (s : Said). s ∷ []) (said-head text at h is)) ∙ ap (λ (a : ℕ). kept_with kept a (label_name text h)) (mod-eq_of_lt small)
+next-behind : (text : List ℕ) (at : ℕ) → left_behind text (line_next text at) < 1 + (length text - at)
+unfolding line_next
+next-behind text at = go (ltb (line_stop text at) (length text)) refl
+  where
+    go : (b : Bool) → ltb (line_stop text at) (length text) ≡ b → left_behind text (pick b (Some (line_stop text at + 1)) None) < 1 + (length text - at)
+    go true e = omega (arith, end-behind text at, ltb-true (line_stop text at) (length text) e)
+    go false e = omega arith
 
-  pub labels_next : (more : List Said) (size : ℕ) (grown : List Label) (next : ℕ) → said_from text at ≡ said_at text at ∷ more → size ≡ statement_size (statement_of (tokens_of (drop h.body text)))
-      → grown ≡ kept_with kept address (label_name text h) → next ≡ behind address size → labels_from grown next more ≡ labels_from kept address (said_from text at)
-  unfolding labels_from
-  labels_next more size grown next e n g a =
-      rw (g, a, n) (labels-reduced more (kept_with kept address (label_name text h)) (address + statement_size (statement_of (tokens_of (drop h.body text))))
-      ∙ ap (λ (x : ℕ). labels_from (kept_with kept x (label_name text h)) (address + statement_size (statement_of (tokens_of (drop h.body text)))) more) (sym (mod-eq_of_lt small))
-      ∙ sym (ap (labels_from kept address) (e ∙ ap (λ (s : Said). s ∷ more) (said-head text at h is))))
+pub line-is : (text : List ℕ) (at : ℕ) (h : Head) → HeadIs text at h → (b : Result Body LineRefusal) → BodyIs text b (statement_of (tokens_of (drop h.body text))) → (size : ℕ) → size ≡ statement_size (statement_of (tokens_of (drop h.body text)))
+    → (next : Option ℕ) → next ≡ line_next text at → LineIs text at (record { label = h.label; said = b; size = size; next = next })
+line-is text at h is b body size sized next e =
+    record {
+      tokens = tokens_of (drop h.body text);
+      says = said-split text at ∙ ap (λ (s : Said). s ∷ said_to text (line_next text at)) (said-head text at h is) ∙ ap (λ (n : Option ℕ). record { name = span_name text h.label; statement = statement_of (tokens_of (drop h.body text)) } ∷ said_to text n) (sym e);
+      body = body;
+      label = is.label;
+      size = sized;
+      behind = subst (λ (n : Option ℕ). left_behind text n < 1 + (length text - at)) (sym e) (next-behind text at);
+    }
+
+-- one line of the first pass
+pub labels-step : (kept : List Label) (address : ℕ) → address < 65536 → (s : Said) (more all : List Said) → all ≡ s ∷ more → (size : ℕ) → size ≡ statement_size s.statement
+    → (grown : List Label) → grown ≡ kept_with kept address s.name → (next : ℕ) → next ≡ behind address size → labels_from grown next more ≡ labels_from kept address all
+unfolding labels_from
+labels-step kept address small s more all e size n grown g next a =
+    rw (g, a, n) (labels-reduced more (kept_with kept address s.name) (address + statement_size s.statement))
+    ∙ ap (λ (x : ℕ). labels_from (kept_with kept x s.name) (address + statement_size s.statement) more) (sym (mod-eq_of_lt small))
+    ∙ sym (ap (labels_from kept address) e)
+
+pub labels-none : (kept : List Label) (address : ℕ) → labels_from kept address [] ≡ kept
+unfolding labels_from
+labels-none kept address = refl
 
 -- a label that stands
-pub stands-none : (text : List ℕ) (h : Head) (kept : List Label) (address : ℕ) → h.labelled ≡ false → true ≡ label_stands kept address (label_name text h)
+pub stands-none : (kept : List Label) (address : ℕ) → true ≡ label_stands kept address []
 unfolding label_stands
-stands-none text h kept address e = rw e
+stands-none kept address = refl
 
 stands-name : (kept : List Label) (address : ℕ) (name : List ℕ) → 0 < length name → label_stands kept address name ≡ may_keep kept name
 unfolding label_stands
 stands-name kept address [] h = absurd (omega arith)
 stands-name kept address (c ∷ cs) h = refl
 
-module _ (text : List ℕ) (h : Head) (fits : Fitting text h) (kept : List Label) (address : ℕ) where
-  pub stands-may : h.labelled ≡ true → may_keep kept (capitals (between text h.from h.to)) ≡ label_stands kept address (label_name text h)
-  stands-may e = let some = fits.some e in rw e (sym (stands-name kept address (capitals (between text h.from h.to)) (omega (arith, name-length text h.from h.to some (fits.inside e)))))
+pub stands-may : (text : List ℕ) (name : NameSpan) → SpanIs text name → (kept : List Label) (address : ℕ) → may_keep kept (capitals (between text name.from name.to)) ≡ label_stands kept address (capitals (between text name.from name.to))
+stands-may text name fits kept address = sym (stands-name kept address (capitals (between text name.from name.to)) (omega (arith, name-length text name.from name.to fits.some fits.inside, fits.some)))
 
-  -- how many labels are kept behind a line whose label stands
-  pub stands-count : label_stands kept address (label_name text h) ≡ true → length (kept_with kept address (label_name text h)) ≡ pick h.labelled (length kept + 1) (length kept)
-  unfolding kept_with
-  stands-count e = go h.labelled refl
-    where
-      go : (b : Bool) → h.labelled ≡ b → length (kept_with kept address (label_name text h)) ≡ pick b (length kept + 1) (length kept)
-      go true l = ap length (sym (kept_more text h fits l kept address (stands-may l ∙ e))) ∙ length-append kept (label (name_at text h.from) address ∷ [])
-      go false l = rw l
+-- the first so many labels of those in two arrays
+pub stands-first : (text places addresses : List ℕ) (count : ℕ) (ps qs : List ℕ) → ps ≡ take count places → qs ≡ take count addresses → (b : Bool) (address : ℕ) (name : List ℕ) → b ≡ label_stands (labels_at text ps qs) address name → b ≡ label_stands (labels_in text places addresses count) address name
+stands-first text places addresses count ps qs p q b address name e = e ∙ ap (λ (x : List ℕ). label_stands (labels_at text x qs) address name) p ∙ ap (λ (x : List ℕ). label_stands (labels_at text (take count places) x) address name) q
+
+-- how many labels are kept behind a line whose label stands
+stands-count : (text : List ℕ) (l : Option NameSpan) → IfSome l (SpanIs text) → (kept : List Label) (address : ℕ) → label_stands kept address (span_name text l) ≡ true → length (kept_with kept address (span_name text l)) ≡ pick (is_some l) (length kept + 1) (length kept)
+unfolding kept_with
+stands-count text None fits kept address e = refl
+stands-count text (Some name) fits kept address e = ap length (sym (kept_more text name fits kept address (stands-may text name fits kept address ∙ e))) ∙ length-append kept (label (name_at text name.from) address ∷ [])
 
 -- some labels of those in two arrays
 labels-taken : (text places addresses : List ℕ) (n : ℕ) → take n (labels_at text places addresses) ≡ labels_in text places addresses n
@@ -252,6 +285,58 @@ module _ (labels kept : List Label) (address before left : ℕ) (s : Said) (n : 
   unfolding line_number
   line-told shown stands none past a b c d = rw (← is, past-left (statement_size s.statement) before left, a, ← b, c, d)
 
+-- a line that is no refusal has no number that the line itself shows
+numbers : (a b : Bool) → leb 30 (pick a (pick b 0 34) 33) && leb (pick a (pick b 0 34) 33) 32 ≡ false
+numbers true true = refl
+numbers true false = refl
+numbers false b = refl
+
+says-plain : (labels : List Label) (address : ℕ) (text : List ℕ) (b : Body) (s : Statement) → Says text b s → leb 30 (statement_number labels address s) && leb (statement_number labels address s) 32 ≡ false
+unfolding statement_number
+says-plain labels address text Blank s h = rw h
+says-plain labels address text (Items two place size) s h = rw h.same (numbers (items_known labels _) _)
+says-plain labels address text (Instruction code o) s h = rw h.same (numbers (names_known labels h.written) _)
+
+pub least : (e : LineRefusal) → 30 ≤ line_refusal_number e
+least UnknownWord = omega arith
+least UnknownForm = omega arith
+least TooDeep = omega arith
+least UnknownName = omega arith
+least OutOfRange = omega arith
+least NoRoom = omega arith
+
+refused-number : (labels : List Label) (address n : ℕ) → n ≡ statement_number labels address (refused n)
+unfolding statement_number
+refused-number labels address n = refl
+
+module _ (labels kept : List Label) (address before left : ℕ) (text : List ℕ) (name : List ℕ) (s : Statement) where
+  -- the number of a line: as it shows itself
+  pub line-shows : (e : LineRefusal) → (s ≡ refused (line_refusal_number e)) × (line_refusal_number e ≤ 32) → line_refusal_number e ≡ line_number labels kept address before (before + left) (record { name = name; statement = s })
+  line-shows e h =
+      line-told labels kept address before left (record { name = name; statement = s }) (line_refusal_number e) (refused-number labels address (line_refusal_number e) ∙ ap (statement_number labels address) (sym h.0)) true _ _ _
+      (rw (le-leb 30 (line_refusal_number e) (least e), le-leb (line_refusal_number e) 32 h.1)) refl refl refl
+
+  module _ (b : Body) (says : Says text b s) where
+    plain : (n : ℕ) → n ≡ statement_number labels address s → leb 30 n && leb n 32 ≡ false
+    plain n e = rw e (says-plain labels address text b s says)
+
+    -- by its label
+    pub line-unkept : false ≡ label_stands kept address name → 33 ≡ line_number labels kept address before (before + left) (record { name = name; statement = s })
+    line-unkept h = line-told labels kept address before left (record { name = name; statement = s }) _ refl false false _ _ (plain _ refl) h refl refl
+
+    module _ (h : true ≡ label_stands kept address name) where
+      -- by its operands or items
+      pub line-wrong : (e : LineRefusal) → line_refusal_number e ≡ statement_number labels address s → line_refusal_number e ≡ line_number labels kept address before (before + left) (record { name = name; statement = s })
+      line-wrong e n = line-told labels kept address before left (record { name = name; statement = s }) _ n false true false _ (plain _ n) h (ne_eqb (line_refusal_number e) 0 (λ z. omega (arith, least e, z))) refl
+
+      -- by its room
+      pub line-room-none : 0 ≡ statement_number labels address s → left < statement_size s → 35 ≡ line_number labels kept address before (before + left) (record { name = name; statement = s })
+      line-room-none n l = line-told labels kept address before left (record { name = name; statement = s }) 0 n false true true true refl h refl (lt-ltb left (statement_size s) l)
+
+      -- or none
+      pub line-right : 0 ≡ statement_number labels address s → statement_size s ≤ left → 0 ≡ line_number labels kept address before (before + left) (record { name = name; statement = s })
+      line-right n l = line-told labels kept address before left (record { name = name; statement = s }) 0 n false true true false refl h refl (le-ltb left (statement_size s) l)
+
 -- a line without a number has a label that stands
 pub line-stands : (labels kept : List Label) (address before room : ℕ) (s : Said) → line_number labels kept address before room s ≡ 0 → label_stands kept address s.name ≡ true
 unfolding line_number
@@ -282,56 +367,51 @@ number-left labels kept first bytes room address s n e a l = let r : bytes + (ro
 behind_more : (first bytes size : ℕ) → behind (behind first bytes) size ≡ behind first (bytes + size)
 behind_more first bytes size = mod-add-mod (first + bytes) 65536 size ∙ ap (λ (n : ℕ). n % 65536) (add_assoc first bytes size)
 
-abbrev pub said_behind : List ℕ → Head → Said
-said_behind text h = record { name = label_name text h; statement = statement_of (tokens_of (drop h.body text)) }
-
-pub record Goes (text places addresses : List ℕ) (first room line count bytes next : ℕ) (before : Failed) : Type 0 where
+-- where it goes on: at the next line, if there is one
+pub record Goes (text places addresses : List ℕ) (first room line count bytes : ℕ) (next : Option ℕ) (before : Failed) : Type 0 where
   pub inside : count ≤ length places
-  pub all : labels_from (labels_in text places addresses count) (behind first bytes) (said_from text next) ≡ labels_at text places addresses
-  pub fails : failed_from (labels_at text places addresses) (labels_in text places addresses count) first room line bytes (said_from text next) ≡ before
+  pub fits : bytes ≤ room
+  pub lines : line + left_behind text next ≤ length text + 2
+  pub all : labels_from (labels_in text places addresses count) (behind first bytes) (said_to text next) ≡ labels_at text places addresses
+  pub fails : failed_from (labels_at text places addresses) (labels_in text places addresses count) first room line bytes (said_to text next) ≡ before
 
-module _ (text places addresses : List ℕ) (first room at line count bytes : ℕ) (h : Head) (is : HeadIs text at h) (n : ℕ)
-    (number : n ≡ line_number (labels_at text places addresses) (labels_in text places addresses count) (behind first bytes) bytes room (said_behind text h)) where
-  first_said : (more : List Said) → said_from text at ≡ said_at text at ∷ more → said_from text at ≡ said_behind text h ∷ more
-  first_said more e = e ∙ ap (λ (s : Said). s ∷ more) (said-head text at h is)
+pub nothing-fails : (labels kept : List Label) (first room line bytes : ℕ) → failed_from labels kept first room line bytes [] ≡ failed 0 0
+unfolding failed_from
+nothing-fails labels kept first room line bytes = refl
 
-  pub line-fails : (n ≡ 0 → ⊥) → failed_from (labels_at text places addresses) (labels_in text places addresses count) first room line bytes (said_from text at) ≡ failed n line
-  line-fails k = ap (failed_from (labels_at text places addresses) (labels_in text places addresses count) first room line bytes) (first_said _ (said-cut text at)) ∙ failed-here (labels_at text places addresses) (labels_in text places addresses count) first room line bytes (said_behind text h) _ n number k
+module _ (text places addresses : List ℕ) (first room at line count bytes : ℕ) (before : Failed) (on : Goes text places addresses first room line count bytes (Some at) before) (l : LineRead) (is : LineIs text at l) (n : ℕ)
+    (number : n ≡ line_number (labels_at text places addresses) (labels_in text places addresses count) (behind first bytes) bytes room (record { name = span_name text l.label; statement = statement_of is.tokens })) where
+  pub line-fails : (n ≡ 0 → ⊥) → before ≡ failed n line
+  line-fails k = sym on.fails ∙ ap (failed_from (labels_at text places addresses) (labels_in text places addresses count) first room line bytes) is.says ∙ failed-here (labels_at text places addresses) (labels_in text places addresses count) first room line bytes (record { name = span_name text l.label; statement = statement_of is.tokens }) _ n number k
 
-  pub lines_end : n ≡ 0 → said_from text at ≡ said_at text at ∷ [] → failed_from (labels_at text places addresses) (labels_in text places addresses count) first room line bytes (said_from text at) ≡ failed 0 0
-  unfolding failed_from
-  lines_end z e = ap (failed_from (labels_at text places addresses) (labels_in text places addresses count) first room line bytes) (first_said [] e) ∙ failed-next (labels_at text places addresses) (labels_in text places addresses count) first room line bytes (said_behind text h) [] (sym number ∙ z)
-
-  pub line-inside-room : n ≡ 0 → bytes ≤ room → bytes + statement_size (said_behind text h).statement ≤ room
-  line-inside-room z k = go (ltb 0 (statement_size (said_behind text h).statement)) (ltb room (bytes + statement_size (said_behind text h).statement)) refl refl (line-inside (labels_at text places addresses) (labels_in text places addresses count) (behind first bytes) bytes room (said_behind text h) (sym number ∙ z))
+  pub line-inside-room : n ≡ 0 → bytes + l.size ≤ room
+  line-inside-room z = rw is.size (go (ltb 0 (statement_size (statement_of is.tokens))) (ltb room (bytes + statement_size (statement_of is.tokens))) refl refl (line-inside (labels_at text places addresses) (labels_in text places addresses count) (behind first bytes) bytes room (record { name = span_name text l.label; statement = statement_of is.tokens }) (sym number ∙ z)))
     where
-      go : (a b : Bool) → ltb 0 (statement_size (said_behind text h).statement) ≡ a → ltb room (bytes + statement_size (said_behind text h).statement) ≡ b → a && b ≡ false → bytes + statement_size (said_behind text h).statement ≤ room
+      go : (a b : Bool) → ltb 0 (statement_size (statement_of is.tokens)) ≡ a → ltb room (bytes + statement_size (statement_of is.tokens)) ≡ b → a && b ≡ false → bytes + statement_size (statement_of is.tokens) ≤ room
       go true true p q r = absurd (false≢true (sym r))
-      go a false p q r = ltb-false room (bytes + statement_size (said_behind text h).statement) q
-      go false true p q r = let l = ltb-false 0 (statement_size (said_behind text h).statement) p in omega arith
+      go a false p q r = ltb-false room (bytes + statement_size (statement_of is.tokens)) q
+      go false true p q r = let l = ltb-false 0 (statement_size (statement_of is.tokens)) p in omega (arith, on.fits)
 
-  pub line-goes : length places ≡ length addresses → count ≤ length places → labels_from (labels_in text places addresses count) (behind first bytes) (said_from text at) ≡ (labels_at text places addresses) → n ≡ 0 → (next size more : ℕ) → said_from text at ≡ said_at text at ∷ said_from text next
-      → size ≡ statement_size (said_behind text h).statement → more ≡ pick h.labelled (count + 1) count
-      → Goes text places addresses first room (line + 1) more (bytes + size) next (failed_from (labels_at text places addresses) (labels_in text places addresses count) first room line bytes (said_from text at))
-  line-goes same inside all z next size more e sized m = record { inside = rw many at (kept-inside text places addresses same grows _ (said_from text next) alls); all = rw (← now, ← behind_more first bytes size) alls; fails = rw (← now) (sym goes) }
+  pub line-goes : length places ≡ length addresses → n ≡ 0 → (more : ℕ) → more ≡ pick (is_some l.label) (count + 1) count → Goes text places addresses first room (line + 1) more (bytes + l.size) l.next before
+  line-goes same z more m = record { inside = rw many at (kept-inside text places addresses same grows _ (said_to text l.next) alls); fits = line-inside-room z; lines = omega (arith, on.lines, is.behind); all = rw (← now, ← behind_more first bytes l.size) alls; fails = rw (← now) (sym goes) ∙ on.fails }
     where
       a : ℕ
       a = behind first bytes
 
       grows : List Label
-      grows = kept_with (labels_in text places addresses count) a (label_name text h)
+      grows = kept_with (labels_in text places addresses count) a (span_name text l.label)
 
-      alls : labels_from grows (behind a size) (said_from text next) ≡ (labels_at text places addresses)
-      alls = labels_next text at h is (labels_in text places addresses count) a (mod-lt (first + bytes) (omega arith)) (said_from text next) size grows (behind a size) e sized refl refl ∙ all
+      alls : labels_from grows (behind a l.size) (said_to text l.next) ≡ (labels_at text places addresses)
+      alls = labels-step (labels_in text places addresses count) a (mod-lt (first + bytes) (omega arith)) (record { name = span_name text l.label; statement = statement_of is.tokens }) (said_to text l.next) (said_from text at) is.says l.size is.size grows refl (behind a l.size) refl ∙ on.all
 
       many : length grows ≡ more
-      many = stands-count text h (fitting text at h is) (labels_in text places addresses count) a (line-stands (labels_at text places addresses) (labels_in text places addresses count) a bytes room (said_behind text h) (sym number ∙ z)) ∙ ap (λ (k : ℕ). pick h.labelled (k + 1) k) (labels-count text places addresses count same inside) ∙ sym m
+      many = stands-count text l.label is.label (labels_in text places addresses count) a (line-stands (labels_at text places addresses) (labels_in text places addresses count) a bytes room (record { name = span_name text l.label; statement = statement_of is.tokens }) (sym number ∙ z)) ∙ ap (λ (k : ℕ). pick (is_some l.label) (k + 1) k) (labels-count text places addresses count same on.inside) ∙ sym m
 
       now : grows ≡ labels_in text places addresses more
-      now = kept-first text places addresses same grows _ (said_from text next) alls ∙ ap (labels_in text places addresses) many
+      now = kept-first text places addresses same grows _ (said_to text l.next) alls ∙ ap (labels_in text places addresses) many
 
-      goes : failed_from (labels_at text places addresses) (labels_in text places addresses count) first room line bytes (said_from text at) ≡ failed_from (labels_at text places addresses) grows first room (line + 1) (bytes + size) (said_from text next)
-      goes = ap (failed_from (labels_at text places addresses) (labels_in text places addresses count) first room line bytes) (first_said (said_from text next) e) ∙ failed-next (labels_at text places addresses) (labels_in text places addresses count) first room line bytes (said_behind text h) (said_from text next) (sym number ∙ z) ∙ ap (λ (k : ℕ). failed_from (labels_at text places addresses) grows first room (line + 1) (bytes + k) (said_from text next)) (sym sized)
+      goes : failed_from (labels_at text places addresses) (labels_in text places addresses count) first room line bytes (said_from text at) ≡ failed_from (labels_at text places addresses) grows first room (line + 1) (bytes + l.size) (said_to text l.next)
+      goes = ap (failed_from (labels_at text places addresses) (labels_in text places addresses count) first room line bytes) is.says ∙ failed-next (labels_at text places addresses) (labels_in text places addresses count) first room line bytes (record { name = span_name text l.label; statement = statement_of is.tokens }) (said_to text l.next) (sym number ∙ z) ∙ ap (λ (k : ℕ). failed_from (labels_at text places addresses) grows first room (line + 1) (bytes + k) (said_to text l.next)) (sym is.size)
 
 -- bytes laid where there is room for them
 laid-fits : (bs code : List ℕ) → are_bytes bs ≡ true → length bs ≤ length code → bytes_laid bs code ≡ bs ++ drop (length bs) code
@@ -393,24 +473,24 @@ part-back here line part bytes h e =
     ap (λ (l : List ℕ). take bytes here ++ (part ++ l)) behind-part ∙ ap (λ (l : List ℕ). take bytes here ++ l) (append-nil part) ∙ ap (λ (l : List ℕ). take bytes here ++ l) now
 
 -- one line of the third pass, when its part of the buffer is back
-module _ (text : List ℕ) (at : ℕ) (h : Head) (is : HeadIs text at h) (labels : List Label) (first bytes : ℕ) (whole code here : List ℕ) (room : length whole ≤ length code) (all : are_bytes whole ≡ true)
-    (on : LaidOn whole code here (bytes_from labels first bytes (said_from text at)) bytes) (size : ℕ) (sized : size ≡ statement_size (said_behind text h).statement) where
-  line-bytes : (more : List Said) → said_from text at ≡ said_at text at ∷ more → LaidOn whole code here (statement_bytes labels (behind first bytes) (said_behind text h).statement ++ bytes_from labels first (bytes + size) more) bytes
+module _ (text : List ℕ) (at : ℕ) (l : LineRead) (is : LineIs text at l) (labels : List Label) (first bytes : ℕ) (whole code here : List ℕ) (room : length whole ≤ length code) (all : are_bytes whole ≡ true)
+    (on : LaidOn whole code here (bytes_from labels first bytes (said_from text at)) bytes) where
+  line-bytes : LaidOn whole code here (statement_bytes labels (behind first bytes) (statement_of is.tokens) ++ bytes_from labels first (bytes + l.size) (said_to text l.next)) bytes
   unfolding bytes_from
-  line-bytes more e =
-      let next = ap (bytes_from labels first bytes) (e ∙ ap (λ (s : Said). s ∷ more) (said-head text at h is)) ∙ ap (λ (n : ℕ). statement_bytes labels (behind first bytes) (said_behind text h).statement ++ bytes_from labels first (bytes + n) more) (sym sized) in
-      subst (λ (l : List ℕ). LaidOn whole code here l bytes) next on
+  line-bytes =
+      let next = ap (bytes_from labels first bytes) is.says ∙ ap (λ (n : ℕ). statement_bytes labels (behind first bytes) (statement_of is.tokens) ++ bytes_from labels first (bytes + n) (said_to text l.next)) (sym is.size) in
+      subst (λ (b : List ℕ). LaidOn whole code here b bytes) next on
 
-  pub line-stored : (more : List Said) (address : ℕ) (part : List ℕ) → said_from text at ≡ said_at text at ∷ more → address ≡ behind first bytes
-      → part ≡ bytes_laid (statement_bytes labels address (said_behind text h).statement) (take (length here - bytes) (drop bytes here)) → LaidOn whole code (put_mid bytes (length here - bytes) here part) (bytes_from labels first (bytes + size) more) (bytes + size)
-  line-stored more address part e a p =
-      let line = statement_bytes labels (behind first bytes) (said_behind text h).statement in
-      let long = sized ∙ sym ((statement-sized (tokens_of (drop h.body text))).sized labels (behind first bytes)) in
-      let back = part-back here line part bytes (here-inside whole code here _ bytes room on).0 (p ∙ ap (λ (n : ℕ). bytes_laid (statement_bytes labels n (said_behind text h).statement) (take (length here - bytes) (drop bytes here))) a) in
-      subst (λ (l : List ℕ). LaidOn whole code l (bytes_from labels first (bytes + size) more) (bytes + size)) (sym back) (laid_more whole code here line _ bytes room all (line-bytes more e) size long)
+  pub line-stored : (address : ℕ) (part : List ℕ) → address ≡ behind first bytes → part ≡ bytes_laid (statement_bytes labels address (statement_of is.tokens)) (take (length here - bytes) (drop bytes here))
+      → LaidOn whole code (put_mid bytes (length here - bytes) here part) (bytes_from labels first (bytes + l.size) (said_to text l.next)) (bytes + l.size)
+  line-stored address part a p =
+      let line = statement_bytes labels (behind first bytes) (statement_of is.tokens) in
+      let long = is.size ∙ sym ((statement-sized is.tokens).sized labels (behind first bytes)) in
+      let back = part-back here line part bytes (here-inside whole code here _ bytes room on).0 (p ∙ ap (λ (n : ℕ). bytes_laid (statement_bytes labels n (statement_of is.tokens)) (take (length here - bytes) (drop bytes here))) a) in
+      subst (λ (b : List ℕ). LaidOn whole code b (bytes_from labels first (bytes + l.size) (said_to text l.next)) (bytes + l.size)) (sym back) (laid_more whole code here line _ bytes room all line-bytes l.size long)
 
-  pub line-room : bytes + size ≤ length whole
-  line-room = (line-stored _ (behind first bytes) _ (said-cut text at) refl refl).inside
+  pub line-room : bytes + l.size ≤ length whole
+  line-room = (line-stored (behind first bytes) _ refl refl).inside
 
 -- behind the last line all bytes are laid
 pub laid-all : (labels : List Label) (first before : ℕ) (whole code now : List ℕ) (bytes : ℕ) → LaidOn whole code now (bytes_from labels first before []) bytes → (bytes ≡ length whole) × (now ≡ whole ++ drop bytes code)
@@ -431,24 +511,25 @@ module _ (text code : List ℕ) (first : ℕ) (labels : List Label) (all : label
   by-passes = passes (said-sized (lines_in text)) (labels_from [] first (said_in (lines_in text))) [] first (length code) 1 [] ∙ ap (λ (l : List Label). passed (failed_from l [] first (length code) 1 0 (said_from text 0)) (bytes_from l first 0 (said_from text 0))) (sym all)
 
   -- a text that is refused
-  module _ (f : Failure) (is : FailureIs f (failed_from labels [] first (length code) 1 0 (said_from text 0))) where
-    pub text-refused : (f.number ≡ 0 → ⊥) → (line : ℕ) → capped_count line ≡ capped_count (f.line + 1) → (f.number + capped_count line * 4294967296 ≡ assembly_word (assemble_of text first (length code))) × (code ≡ assembled_into code (assemble_of text first (length code)))
-    unfolding assembly_word assembled_into
-    text-refused k line e =
-        let n : eqb (failed_from labels [] first (length code) 1 0 (said_from text 0)).number 0 ≡ false = ne_eqb (failed_from labels [] first (length code) 1 0 (said_from text 0)).number 0 (λ z. k (is.number ∙ z)) in
-        rw (by-passes, n) (rw n (ap (λ (x : ℕ). x + capped_count line * 4294967296) is.number ∙ ap (λ (x : ℕ). (failed_from labels [] first (length code) 1 0 (said_from text 0)).number + x * 4294967296) (e ∙ ap capped_count (is.line k))), refl)
+  pub text-refused : (f : Refused) → (line_refusal_number f.refusal ≡ (failed_from labels [] first (length code) 1 0 (said_from text 0)).number) × (f.line + 1 ≡ (failed_from labels [] first (length code) 1 0 (said_from text 0)).line) → (line : ℕ) → capped_count line ≡ capped_count (f.line + 1)
+      → (line_refusal_number f.refusal + capped_count line * 4294967296 ≡ assembly_word (assemble_of text first (length code))) × (code ≡ assembled_into code (assemble_of text first (length code)))
+  unfolding assembly_word assembled_into
+  text-refused f is line e =
+      let n : eqb (failed_from labels [] first (length code) 1 0 (said_from text 0)).number 0 ≡ false = ne_eqb (failed_from labels [] first (length code) 1 0 (said_from text 0)).number 0 (λ z. omega (arith, least f.refusal, is.0, z)) in
+      rw (by-passes, n) (rw n (ap (λ (x : ℕ). x + capped_count line * 4294967296) is.0 ∙ ap (λ (x : ℕ). (failed_from labels [] first (length code) 1 0 (said_from text 0)).number + x * 4294967296) (e ∙ ap capped_count is.1)), refl)
 
-    pub text-room : f.number ≡ 0 → length (bytes_from labels first 0 (said_from text 0)) ≤ length code
+  module _ (z : 0 ≡ (failed_from labels [] first (length code) 1 0 (said_from text 0)).number) where
+    pub text-room : length (bytes_from labels first 0 (said_from text 0)) ≤ length code
     unfolding said_from
-    text-room z = ⊎_elim (λ (e : length (bytes_from labels first 0 (said_from text 0)) ≡ 0). omega arith) (λ (l : 0 + length (bytes_from labels first 0 (said_from text 0)) ≤ length code). omega arith) (bytes_inside (said-sized (lines_in text)) labels [] first (length code) 1 0 (sym is.number ∙ z))
+    text-room = ⊎_elim (λ (e : length (bytes_from labels first 0 (said_from text 0)) ≡ 0). omega arith) (λ (l : 0 + length (bytes_from labels first 0 (said_from text 0)) ≤ length code). omega arith) (bytes_inside (said-sized (lines_in text)) labels [] first (length code) 1 0 (sym z))
 
-    pub text-bytes : f.number ≡ 0 → are_bytes (bytes_from labels first 0 (said_from text 0)) ≡ true
+    pub text-bytes : are_bytes (bytes_from labels first 0 (said_from text 0)) ≡ true
     unfolding said_from
-    text-bytes z = said-stores (lines_in text) labels [] first (length code) 1 0 (sym is.number ∙ z)
+    text-bytes = said-stores (lines_in text) labels [] first (length code) 1 0 (sym z)
 
-    pub text-done : f.number ≡ 0 → (stored : ℕ) (now : List ℕ) → stored ≡ length (bytes_from labels first 0 (said_from text 0)) → now ≡ bytes_from labels first 0 (said_from text 0) ++ drop stored code
+    pub text-done : (stored : ℕ) (now : List ℕ) → stored ≡ length (bytes_from labels first 0 (said_from text 0)) → now ≡ bytes_from labels first 0 (said_from text 0) ++ drop stored code
         → (0 + capped_count stored * 4294967296 ≡ assembly_word (assemble_of text first (length code))) × (now ≡ assembled_into code (assemble_of text first (length code)))
     unfolding assembly_word assembled_into
-    text-done z stored now e g =
-        let n : eqb (failed_from labels [] first (length code) 1 0 (said_from text 0)).number 0 ≡ true = eq-eqb (failed_from labels [] first (length code) 1 0 (said_from text 0)).number 0 (sym is.number ∙ z) in
+    text-done stored now e g =
+        let n : eqb (failed_from labels [] first (length code) 1 0 (said_from text 0)).number 0 ≡ true = eq-eqb (failed_from labels [] first (length code) 1 0 (said_from text 0)).number 0 (sym z) in
         rw (by-passes, n) (ap (λ (x : ℕ). 0 + capped_count x * 4294967296) e, g ∙ ap (λ (x : ℕ). bytes_from labels first 0 (said_from text 0) ++ drop x code) e)

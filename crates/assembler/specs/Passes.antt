@@ -1,24 +1,16 @@
 -- The three passes over a text, as the code has them.
-use Rattle.std.specs.Prelude.{◌≡◌, Bool, true, not, List, [], ℕ, ◌+◌, ◌*◌, ◌%◌, ◌≤◌, ◌<◌, eqb, leb, length, take, drop}
+use Rattle.std.specs.Prelude.{◌≡◌, Bool, not, List, [], ◌∷◌, ℕ, ◌+◌, ◌-◌, ◌*◌, ◌%◌, ◌<◌, Option, Some, None, IfSome, Result, Ok, Err, eqb, ltb, leb, length, take, drop}
 use Rattle.ground_rules.specs.Choice.{pick}
-use Rattle.assembly_rules.specs.Text.{capitals, tokens_of, lines_in}
+use Rattle.assembly_rules.specs.Text.{Token, tokens_of, lines_in}
 use Rattle.assembly_rules.specs.Sums.{Label}
-use Rattle.assembly_rules.specs.Statements.{headed_by, statement_of}
+use Rattle.assembly_rules.specs.Statements.{headed_by, statement_of, statement_size}
 use Rattle.assembly_rules.specs.Assembly.{Said, said_in, Assembled}
 use Rattle.assembly_rules.proofs.PassLaws.{Failed}
-use Rattle.assembler_text.specs.Places.{leading, between, name_at, labels_at}
-use Rattle.assembler_lines.specs.declared.bodies.Head.{Head}
-use Rattle.assembler.specs.declared.passes.Failure.{Failure}
-
--- the name of a line's label, none where it has none
-abbrev pub label_name : List ℕ → Head → List ℕ
-label_name text h = pick h.labelled (capitals (between text h.from h.to)) []
-
--- a label that stands in the text as a run of it
-pub record Fitting (text : List ℕ) (h : Head) : Type 0 where
-  pub some : h.labelled ≡ true → h.from < h.to
-  pub inside : h.labelled ≡ true → h.to ≤ length text
-  pub name : h.labelled ≡ true → name_at text h.from ≡ capitals (between text h.from h.to)
+use Rattle.assembler_text.specs.Places.{leading, labels_at}
+use Rattle.assembler_forms.specs.Rows.{left_behind}
+use Rattle.assembler_lines.specs.Bodies.{line_refusal_number, span_name, SpanIs, BodyIs}
+use Rattle.assembler.specs.declared.lines.LineRead.{LineRead}
+use Rattle.assembler.specs.declared.passes.Refused.{Refused}
 
 -- the place of the line feed that ends the line at a place, or the text's end
 abbrev pub in_line : ℕ → Bool
@@ -43,10 +35,27 @@ labels_in text places addresses count = labels_at text (take count places) (take
 abbrev pub behind : ℕ → ℕ → ℕ
 behind first before = (first + before) % 65536
 
--- the first line that has a number, by the lines before it
-pub record FailureIs (f : Failure) (is : Failed) : Type 0 where
-  pub number : f.number ≡ is.number
-  pub line : (f.number ≡ 0 → ⊥) → f.line + 1 ≡ is.line
+-- the first line that is refused, by the lines before it
+abbrev pub FailureIs : {A : Type 0} → Result A Refused → Failed → Type 0
+FailureIs (Ok a) is = 0 ≡ is.number
+FailureIs (Err r) is = (line_refusal_number r.refusal ≡ is.number) × (r.line + 1 ≡ is.line)
+
+-- the place of the line behind the one at a place, and what the lines from such a place on say
+unfoldable pub line_next : List ℕ → ℕ → Option ℕ
+line_next text at = pick (ltb (line_stop text at) (length text)) (Some (line_stop text at + 1)) None
+
+abbrev pub said_to : List ℕ → Option ℕ → List Said
+said_to text None = []
+said_to text (Some at) = said_from text at
+
+-- the line at a place: its label, its statement, its bytes and the lines behind it
+pub record LineIs (text : List ℕ) (at : ℕ) (line : LineRead) : Type 0 where
+  pub tokens : List Token
+  pub says : said_from text at ≡ record { name = span_name text line.label; statement = statement_of tokens } ∷ said_to text line.next
+  pub body : BodyIs text line.said (statement_of tokens)
+  pub label : IfSome line.label (SpanIs text)
+  pub size : line.size ≡ statement_size (statement_of tokens)
+  pub behind : left_behind text line.next < 1 + (length text - at)
 
 -- a count that four bytes hold
 abbrev pub capped_count : ℕ → ℕ

@@ -4,25 +4,21 @@ ghost use Rattle.assembly_rules.specs.Assembly.{assemble_of, assembled_into};
 ghost use Rattle.assembler.specs.Passes.{capped_count, assembly_word};
 
 use crate::passes;
+use assembler_text::labels::Labels;
 
-// A number and a count in one word, the count no more than four bytes hold.
+// A number and a count in one word, as C's interface has them; the count no more than four bytes hold.
 fn word(number: u32, count: usize) -> u64
     ensures { result ≡ number + capped_count count * 4294967296 }
 {
-    if count <= 4294967295 {
-        return number as u64 + count as u64 * 4294967296;
-    }
-    number as u64 + 18446744069414584320
+    let capped = u32::try_from(count).unwrap_or(u32::MAX);
+    u64::from(number) + u64::from(capped) * 4294967296
 }
 
-// One more, or no more than four bytes hold.
-fn one_more(lines: usize) -> usize
-    ensures { capped_count result ≡ capped_count (lines + 1) }
+// The number of the line behind so many.
+fn line_behind(before: usize) -> usize
+    ensures { capped_count result ≡ capped_count (before + 1) }
 {
-    if lines < 4294967295 {
-        return lines + 1;
-    }
-    4294967295
+    before.saturating_add(1)
 }
 
 // A text assembled with room for 64 labels.
@@ -38,18 +34,14 @@ fn assemble_with(
     ensures code_after { code.new ≡ assembled_into code.old (assemble_of text.now first (length code.old)) }
 {
     let count = passes::labels(text, first, places, addresses);
-    let f = passes::failed(
-        text,
-        first,
-        &places[..count],
-        &addresses[..count],
-        code.len(),
-    );
-    if f.number != 0 {
-        return word(f.number, one_more(f.line));
+    let labels = Labels {
+        places: &places[..count],
+        addresses: &addresses[..count],
+    };
+    match passes::check(text, first, &labels, code.len()) {
+        Ok(()) => word(0, passes::store(text, first, &labels, code)),
+        Err(refused) => word(refused.refusal.number(), line_behind(refused.line)),
     }
-    let stored = passes::store(text, first, &places[..count], &addresses[..count], code);
-    word(0, stored)
 }
 
 // A text assembled from an address into a buffer: its number, and its line or the bytes stored.

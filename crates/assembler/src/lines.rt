@@ -1,59 +1,83 @@
-// Lines of a text, and whether a line's label may be kept.
-ghost use Rattle.std.specs.Prelude.{◌≡◌, ℕ, ◌≤◌, ◌<◌, length};
+// The lines of a text, and whether a line's label may be kept.
+ghost use Rattle.std.specs.Prelude.{◌≡◌, ℕ, IfSome, length};
 ghost use Rattle.assembly_rules.specs.Text.{capitals};
 ghost use Rattle.assembly_rules.specs.Assembly.{may_keep, label_stands};
-ghost use Rattle.assembler_text.specs.Places.{between, labels_at};
-ghost use Rattle.assembler.specs.Passes.{line_stop, label_name, Fitting};
+ghost use Rattle.assembler_text.specs.Places.{between, labels_of};
+ghost use Rattle.assembler_lines.specs.Bodies.{SpanIs, span_name};
+ghost use Rattle.assembler.specs.Passes.{line_stop, line_next, LineIs};
 
-use assembler_lines::bodies::Head;
-use assembler_lines::lines as saying;
-use assembler_text::labels;
+use assembler_lines::bodies::{Body, LineRefusal, NameSpan};
+use assembler_lines::{lines as saying, sizes};
+use assembler_text::labels::Labels;
+use assembler_text::tokens;
+
+// A line: its label, if it has one, what stands behind it, how many bytes it has, and the place of the next line.
+#[derive(Clone, Copy)]
+pub(crate) struct LineRead {
+    pub label: Option<NameSpan>,
+    pub said: Result<Body, LineRefusal>,
+    pub size: usize,
+    pub next: Option<usize>,
+}
 
 // The place of the line feed that ends the line at a place, or the text's end.
-pub(crate) fn line_stop(text: &[u8], at: usize) -> usize
+fn line_stop(text: &[u8], at: usize) -> usize
     ensures { result ≡ line_stop text.now at }
 {
-    let mut i = at;
-    while i < text.len() {
-        if text[i] == 10 {
-            return i;
-        }
-        i += 1;
+    tokens::skip_while(text, at, |c| c != b'\n')
+}
+
+#[tactic(auto, unfolding(crate::specs::Passes::line_next))]
+// The place of the line behind the one at a place.
+fn line_next(text: &[u8], at: usize) -> Option<usize>
+    ensures { result ≡ line_next text.now at }
+{
+    let stop = line_stop(text, at);
+    if stop < text.len() {
+        return Some(stop + 1);
     }
-    i
+    None
+}
+
+// The line at a place.
+pub(crate) fn line_at(text: &[u8], at: usize) -> LineRead
+    ensures { LineIs text.now at result }
+{
+    let head = saying::head(text, at);
+    let said = saying::body(text, head.body);
+    LineRead {
+        label: head.label,
+        said,
+        size: sizes::size(said),
+        next: line_next(text, at),
+    }
 }
 
 // Whether a name may be kept as a label beside those that are.
-pub(crate) fn may_keep(
-    text: &[u8],
-    from: usize,
-    to: usize,
-    places: &[usize],
-    addresses: &[u32],
-) -> bool
-    requires { (from < to) × ((to ≤ length text.now) × (length places.now ≡ length addresses.now)) }
-    ensures { result ≡ may_keep (labels_at text.now places.now addresses.now) (capitals (between text.now from to)) }
+pub(crate) fn may_keep(text: &[u8], name: NameSpan, labels: &Labels) -> bool
+    requires { SpanIs text.now name × (length labels.now.places.now ≡ length labels.now.addresses.now) }
+    ensures { result ≡ may_keep (labels_of text.now labels.now) (capitals (between text.now name.from name.to)) }
 {
-    if 12 < to - from {
+    if 12 < name.to - name.from {
         return false;
     }
-    let name = &text[from..to];
-    if labels::label_worth(text, places, addresses, name).known {
+    let run = &text[name.from..name.to];
+    if labels.address_of(text, run).is_some() {
         return false;
     }
-    if saying::is_reserved(name) {
+    if saying::is_reserved(run) {
         return false;
     }
-    places.len() < 64
+    labels.places.len() < 64
 }
 
 // Whether a line has no label, or one that may be kept beside those that are.
-pub(crate) fn label_stands(text: &[u8], h: Head, places: &[usize], addresses: &[u32]) -> bool
-    requires { Fitting text.now h × (length places.now ≡ length addresses.now) }
-    ensures { (address : ℕ) → result ≡ label_stands (labels_at text.now places.now addresses.now) address (label_name text.now h) }
+pub(crate) fn label_stands(text: &[u8], label: Option<NameSpan>, labels: &Labels) -> bool
+    requires { IfSome label (SpanIs text.now) × (length labels.now.places.now ≡ length labels.now.addresses.now) }
+    ensures { (address : ℕ) → result ≡ label_stands (labels_of text.now labels.now) address (span_name text.now label) }
 {
-    if h.labelled {
-        return may_keep(text, h.from, h.to, places, addresses);
+    match label {
+        Some(name) => may_keep(text, name, labels),
+        None => true,
     }
-    true
 }

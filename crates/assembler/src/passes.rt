@@ -1,22 +1,23 @@
 // The three passes over a text.
-ghost use Rattle.std.specs.Prelude.{◌≡◌, true, List, [], ◌++◌, ℕ, ◌+◌, ◌-◌, ◌%◌, ◌≤◌, ◌<◌, length, drop};
+ghost use Rattle.std.specs.Prelude.{◌≡◌, true, IfSome, List, [], ◌++◌, ℕ, ◌+◌, ◌-◌, ◌%◌, ◌≤◌, ◌<◌, length, drop, is_some};
 ghost use Rattle.ground_rules.specs.Choice.{pick};
-ghost use Rattle.assembly_rules.specs.Statements.{Statement};
+ghost use Rattle.assembly_rules.specs.Statements.{Statement, statement_size};
 ghost use Rattle.assembly_rules.proofs.PassLaws.{failed_from, bytes_from};
 ghost use Rattle.assembly_rules.proofs.ByteLaws.{are_bytes};
 ghost use Rattle.assembly_rules.specs.Assembly.{kept_with, labels_from, line_number};
-ghost use Rattle.assembler_text.specs.Places.{labels_at};
-ghost use Rattle.assembler_lines.specs.Bodies.{HeadIs, BodyIs};
-ghost use Rattle.assembler.specs.Passes.{said_from, labels_in, behind, label_name, Fitting, FailureIs};
+ghost use Rattle.assembler_text.specs.Places.{labels_of};
+ghost use Rattle.assembler_lines.specs.Bodies.{SpanIs, span_name, BodyIs, line_answered};
+ghost use Rattle.assembler.specs.Passes.{said_from, labels_in, behind, FailureIs};
 
 use crate::lines;
-use assembler_lines::bodies::{Body, Head};
-use assembler_lines::{lines as saying, sizes};
+use crate::lines::LineRead;
+use assembler_lines::bodies::{LineRefusal, NameSpan};
+use assembler_text::labels::Labels;
 
-// The number of the first line that has one, and its line; 0 and 0 where none has.
+// Why a line is refused, and how many lines are before it.
 #[derive(Clone, Copy)]
-pub(crate) struct Failure {
-    pub number: u32,
+pub(crate) struct Refused {
+    pub refusal: LineRefusal,
     pub line: usize,
 }
 
@@ -30,164 +31,136 @@ fn behind(first: u32, bytes: usize) -> u32
 // A line's label kept behind others, if it may be: how many there are then.
 fn kept(
     text: &[u8],
-    h: Head,
+    label: Option<NameSpan>,
     address: u32,
     places: &mut [usize],
     addresses: &mut [u32],
     count: usize,
 ) -> usize
-    requires { (length places.old ≡ 64) × ((length addresses.old ≡ 64) × ((count ≤ 64) × Fitting text.now h)) }
+    requires { (length places.old ≡ 64) × ((length addresses.old ≡ 64) × ((count ≤ 64) × IfSome label (SpanIs text.now))) }
     ensures upper_bound { result ≤ 64 }
     ensures places_len { (length places.new ≡ 64) × (length addresses.new ≡ 64) }
-    ensures result_after { labels_in text.now places.new addresses.new result ≡ kept_with (labels_in text.now places.old addresses.old count) address (label_name text.now h) }
+    ensures result_after { labels_in text.now places.new addresses.new result ≡ kept_with (labels_in text.now places.old addresses.old count) address (span_name text.now label) }
 {
-    if !h.labelled {
+    let Some(name) = label else {
+        return count;
+    };
+    let labels = Labels {
+        places: &places[..count],
+        addresses: &addresses[..count],
+    };
+    if !lines::may_keep(text, name, &labels) {
         return count;
     }
-    if !lines::may_keep(text, h.from, h.to, &places[..count], &addresses[..count]) {
-        return count;
-    }
-    places[count] = h.from;
+    places[count] = name.from;
     addresses[count] = address;
     count + 1
 }
 
-// The labels of a text, by the places of their names and their addresses: how many there are.
+// The labels of a text, by the places of their names and their addresses: how many there are. Each pass asks `line_at` for line
+// after line: an iterator of them would need a law beside `LineIs` and save each pass one line.
 pub(crate) fn labels(text: &[u8], first: u32, places: &mut [usize], addresses: &mut [u32]) -> usize
     requires { (length places.old ≡ 64) × (length addresses.old ≡ 64) }
     ensures upper_bound { result ≤ 64 }
     ensures places_len { (length places.new ≡ 64) × (length addresses.new ≡ 64) }
     ensures result_after { labels_in text.now places.new addresses.new result ≡ labels_from [] first (said_from text.now 0) }
 {
-    let mut at: usize = 0;
     let mut address = first % 65536;
     let mut count: usize = 0;
-    loop {
-        let h = saying::head(text, at);
-        count = kept(text, h, address, places, addresses, count);
-        let b = saying::body(text, h.body);
-        address = behind(address, sizes::size(b));
-        let end = lines::line_stop(text, at);
-        if text.len() <= end {
-            return count;
-        }
-        at = end + 1;
-    }
-}
-
-// The number of a line, 0 where it has none; `left` bytes of the room are left.
-fn line_number(
-    text: &[u8],
-    h: Head,
-    b: Body,
-    places: &[usize],
-    addresses: &[u32],
-    count: usize,
-    address: u32,
-    left: usize,
-) -> u32
-    requires { Fitting text.now h × ((length places.now ≡ length addresses.now) × (count ≤ length places.now)) }
-    ensures { (s : Statement) → BodyIs text.now b s → (before : ℕ) → result ≡ line_number (labels_at text.now places.now addresses.now) (labels_in text.now places.now addresses.now count) address before (before + left) (record { name = label_name text.now h; statement = s }) }
-{
-    let n = assembler_bytes::number(text, b, places, addresses, address);
-    if (30 <= n) & (n <= 32) {
-        return n;
-    }
-    if !lines::label_stands(text, h, &places[..count], &addresses[..count]) {
-        return 33;
-    }
-    if n != 0 {
-        return n;
-    }
-    if left < sizes::size(b) {
-        return 35;
-    }
-    0
-}
-
-// How many labels are kept behind a line whose label stands.
-fn and_its(h: Head, count: usize) -> usize
-    requires { count ≤ 64 }
-    ensures { result ≡ pick h.labelled (count + 1) count }
-{
-    if h.labelled {
-        return count + 1;
+    let mut place = Some(0);
+    while let Some(at) = place {
+        let line = lines::line_at(text, at);
+        count = kept(text, line.label, address, places, addresses, count);
+        address = behind(address, line.size);
+        place = line.next;
     }
     count
 }
 
-// The first line that a number refuses.
-pub(crate) fn failed(
+// Why a line is refused, if it is; so many labels are kept before it, and `left` bytes of the room are left.
+fn check_line(
     text: &[u8],
-    first: u32,
-    places: &[usize],
-    addresses: &[u32],
-    room: usize,
-) -> Failure
-    requires { (length places.now ≡ length addresses.now) × ((length places.now ≤ 64) × (labels_at text.now places.now addresses.now ≡ labels_from [] first (said_from text.now 0))) }
-    ensures { FailureIs result (failed_from (labels_at text.now places.now addresses.now) [] first room 1 0 (said_from text.now 0)) }
+    line: LineRead,
+    labels: &Labels,
+    count: usize,
+    address: u32,
+    left: usize,
+) -> Result<(), LineRefusal>
+    requires { IfSome line.label (SpanIs text.now) × ((length labels.now.places.now ≡ length labels.now.addresses.now) × (count ≤ length labels.now.places.now)) }
+    ensures { (s : Statement) → BodyIs text.now line.said s → line.size ≡ statement_size s → (before : ℕ) → line_answered result ≡ line_number (labels_of text.now labels.now) (labels_in text.now labels.now.places.now labels.now.addresses.now count) address before (before + left) (record { name = span_name text.now line.label; statement = s }) }
 {
-    let mut at: usize = 0;
-    let mut line: usize = 0;
-    let mut count: usize = 0;
-    let mut bytes: usize = 0;
-    loop {
-        let h = saying::head(text, at);
-        let b = saying::body(text, h.body);
-        let number = line_number(
-            text,
-            h,
-            b,
-            places,
-            addresses,
-            count,
-            behind(first, bytes),
-            room - bytes,
-        );
-        if number != 0 {
-            return Failure { number, line };
-        }
-        count = and_its(h, count);
-        bytes += sizes::size(b);
-        let end = lines::line_stop(text, at);
-        if text.len() <= end {
-            return Failure { number: 0, line: 0 };
-        }
-        at = end + 1;
-        line += 1;
+    let body = line.said?;
+    if !lines::label_stands(text, line.label, &labels.first(count)) {
+        return Err(LineRefusal::UnknownName);
+    }
+    assembler_bytes::check(text, body, labels, address)?;
+    if left < line.size {
+        return Err(LineRefusal::NoRoom);
+    }
+    Ok(())
+}
+
+// How many labels are kept behind a line whose label stands.
+fn and_its(label: Option<NameSpan>, count: usize) -> usize
+    requires { count ≤ 64 }
+    ensures { result ≡ pick (is_some label) (count + 1) count }
+{
+    match label {
+        Some(_) => count + 1,
+        None => count,
     }
 }
 
-// The bytes of all lines, stored: how many they are.
-pub(crate) fn store(
-    text: &[u8],
-    first: u32,
-    places: &[usize],
-    addresses: &[u32],
-    code: &mut [u8],
-) -> usize
-    requires { (length (bytes_from (labels_at text.now places.now addresses.now) first 0 (said_from text.now 0)) ≤ length code.old) × (are_bytes (bytes_from (labels_at text.now places.now addresses.now) first 0 (said_from text.now 0)) ≡ true) }
-    ensures value { result ≡ length (bytes_from (labels_at text.now places.now addresses.now) first 0 (said_from text.now 0)) }
-    ensures code_after { code.new ≡ bytes_from (labels_at text.now places.now addresses.now) first 0 (said_from text.now 0) ++ drop result code.old }
+// The first line that is refused, and why.
+pub(crate) fn check(text: &[u8], first: u32, labels: &Labels, room: usize) -> Result<(), Refused>
+    requires { (length labels.now.places.now ≡ length labels.now.addresses.now) × ((length labels.now.places.now ≤ 64) × (labels_of text.now labels.now ≡ labels_from [] first (said_from text.now 0))) }
+    ensures { FailureIs result (failed_from (labels_of text.now labels.now) [] first room 1 0 (said_from text.now 0)) }
 {
-    let mut at: usize = 0;
+    let mut before: usize = 0;
+    let mut count: usize = 0;
     let mut bytes: usize = 0;
-    loop {
-        let h = saying::head(text, at);
-        let b = saying::body(text, h.body);
+    let mut place = Some(0);
+    while let Some(at) = place {
+        let line = lines::line_at(text, at);
+        check_line(
+            text,
+            line,
+            labels,
+            count,
+            behind(first, bytes),
+            room - bytes,
+        )
+        .map_err(|refusal| Refused {
+            refusal,
+            line: before,
+        })?;
+        count = and_its(line.label, count);
+        bytes += line.size;
+        before += 1;
+        place = line.next;
+    }
+    Ok(())
+}
+
+// The bytes of all lines, stored: how many they are.
+pub(crate) fn store(text: &[u8], first: u32, labels: &Labels, code: &mut [u8]) -> usize
+    requires { (length (bytes_from (labels_of text.now labels.now) first 0 (said_from text.now 0)) ≤ length code.old) × (are_bytes (bytes_from (labels_of text.now labels.now) first 0 (said_from text.now 0)) ≡ true) }
+    ensures value { result ≡ length (bytes_from (labels_of text.now labels.now) first 0 (said_from text.now 0)) }
+    ensures code_after { code.new ≡ bytes_from (labels_of text.now labels.now) first 0 (said_from text.now 0) ++ drop result code.old }
+{
+    let mut bytes: usize = 0;
+    let mut place = Some(0);
+    while let Some(at) = place {
+        let line = lines::line_at(text, at);
         assembler_bytes::put(
             text,
-            b,
-            places,
-            addresses,
+            line.said,
+            labels,
             behind(first, bytes),
             &mut code[bytes..],
         );
-        bytes += sizes::size(b);
-        let end = lines::line_stop(text, at);
-        if text.len() <= end {
-            return bytes;
-        }
-        at = end + 1;
+        bytes += line.size;
+        place = line.next;
     }
+    bytes
 }

@@ -1,14 +1,11 @@
 -- Items of data from a place on, one after another.
 -- Assumes nothing.
 use mathlib.Core.Path.{◌≡◌, refl, sym, ap, ◌∙◌}
-use mathlib.Core.Bool.{Bool, true, false, ◌&&◌, ◌||◌, false≢true}
+use mathlib.Core.Bool.{Bool, true, false, not, ◌&&◌, ◌||◌}
 use mathlib.Core.List.{List, [], ◌∷◌, ◌++◌}
-use Prim.Native.Nat.{ℕ, ◌+◌, ◌≤◌}
-use native.Mathlib.Omega.{arith}
-use native.Mathlib.Nat.{add-zero}
-use lib.Dec.{ltb, leb}
-use lib.ListN.{length, drop, drop_of_length-le}
-use borrow.Author.Tests.{ltb-true, ltb-false, le-leb}
+use Prim.Native.Nat.{ℕ, ◌+◌}
+use lib.Dec.{leb}
+use lib.ListN.{drop}
 use Rattle.ground_rules.specs.Bytes.{low_byte}
 use Rattle.ground_rules.specs.Choice.{pick}
 use Rattle.listing_rules.specs.Forms.{word_bytes}
@@ -18,11 +15,13 @@ use Rattle.assembly_rules.specs.Sums.{Label, is_sum, depth_of, sum_worth}
 use Rattle.assembly_rules.specs.Statements.{is_byte, all_sums, all_low, items_known, items_stand, items_bytes, statement_number}
 use Rattle.assembly_rules.specs.Statements.Statement.{items}
 use Rattle.assembly_rules.proofs.WritingLaws.{both_left, both_right}
-use Rattle.assembler_text.specs.Places.{leading, past_blanks, stop_at, token_from, token_at}
+use Rattle.assembler_text.specs.Places.{stop_at, token_at}
 use Rattle.assembler_forms.specs.Forms.{operand_tokens}
-use Rattle.assembler_forms.specs.Rows.{comma_at, ends_at}
-use Rattle.assembler_forms.proofs.RowLaws.{comma-next, comma-none, cut-one, cut-more, some-row, ends-tokens}
-use Rattle.assembler_bytes.specs.Laid.{data_at, PartsAreSums}
+use Rattle.std.specs.Prelude.{Option, Some, None}
+use Rattle.std.specs.Bool.{then_some}
+use Rattle.assembler_forms.specs.Rows.{comma_at, ends_at, next_part}
+use Rattle.assembler_forms.proofs.RowLaws.{comma-next, comma-none, cut-one, cut-more, some-row, ends-tokens, part-none, part-some}
+use Rattle.assembler_bytes.specs.Laid.{data_at, first_item, laid_at, PartsAreSums}
 use Rattle.assembler_bytes.proofs.WorthLaws.{worth-before}
 
 -- what stands between commas from a place on
@@ -33,17 +32,6 @@ items_at text at = cut_at is_comma (tokens_of (drop at text))
 pub data-none : (text : List ℕ) (place : ℕ) → ends_at text place ≡ true → data_at text place ≡ []
 unfolding ends_at
 data-none text place h = rw (ends-tokens text place (token_at text place) refl h)
-
-past-ends : (text : List ℕ) (at : ℕ) → length text ≤ at → ends_at text at ≡ true
-unfolding ends_at token_at token_from past_blanks leading
-past-ends text at l = rw (drop_of_length-le text l, add-zero at, le-leb (length text) at l)
-
-pub ends-inside : (text : List ℕ) (at : ℕ) → ends_at text at ≡ false → at ≤ length text
-ends-inside text at h = go (ltb (length text) at) refl
-  where
-    go : (b : Bool) → ltb (length text) at ≡ b → at ≤ length text
-    go true e = let l = ltb-true (length text) at e in absurd (false≢true (sym h ∙ past-ends text at (omega arith)))
-    go false e = ltb-false (length text) at e
 
 pub data-some : (text : List ℕ) (place : ℕ) → ends_at text place ≡ false → data_at text place ≡ items_at text place
 unfolding ends_at
@@ -61,6 +49,22 @@ item-first text at = go (comma_at text (stop_at text at)) refl
     go : (b : Bool) → comma_at text (stop_at text at) ≡ b → (parts : List (List Token)) × (items_at text at ≡ operand_tokens text at ∷ parts)
     go true e = (items_at text (stop_at text at + 1), item-next text at _ refl e)
     go false e = ([], item-last text at _ refl e)
+
+-- the items from a place on, if there is one
+abbrev pub parts_to : List ℕ → Option ℕ → List (List Token)
+parts_to text None = []
+parts_to text (Some at) = items_at text at
+
+item-split : (text : List ℕ) (at : ℕ) (next : Option ℕ) → next ≡ next_part text at → items_at text at ≡ operand_tokens text at ∷ parts_to text next
+item-split text at None e = item-last text at _ refl (part-none text at (sym e))
+item-split text at (Some n) e = let p = part-some text at n (sym e) in item-next text at _ refl p.comma ∙ rw p.here
+
+pub items-begin : (text : List ℕ) (place : ℕ) → data_at text place ≡ parts_to text (first_item text place)
+items-begin text place = go (ends_at text place) refl
+  where
+    go : (b : Bool) → ends_at text place ≡ b → data_at text place ≡ parts_to text (then_some (not b) place)
+    go true e = data-none text place e
+    go false e = data-some text place e
 
 sums_first : (part : List Token) (parts : List (List Token)) → PartsAreSums (part ∷ parts) → (is_sum part ≡ true) × PartsAreSums parts
 unfolding all_sums all_low
@@ -129,21 +133,23 @@ module _ (labels : List Label) (text : List ℕ) (at : ℕ) (w : Worth) (g : Par
   unfolding items_bytes
   bytes-here two parts f = ap (λ (x : Worth). pick two (word_bytes x.value) (low_byte x.value ∷ []) ++ items_bytes labels two parts) item-is ∙ ap (items_bytes labels two) (sym f)
 
-  pub bytes-last : (two : Bool) (p : ℕ) → p ≡ stop_at text at → comma_at text p ≡ false → pick two (word_bytes w.value) (low_byte w.value ∷ []) ++ [] ≡ items_bytes labels two (items_at text at)
-  unfolding items_bytes
-  bytes-last two p q k = bytes-here two [] (item-last text at p q k)
+  pub bytes-turn : (two : Bool) (next : Option ℕ) → next ≡ next_part text at
+      → PartsAreSums (parts_to text next) × (pick two (word_bytes w.value) (low_byte w.value ∷ []) ++ items_bytes labels two (parts_to text next) ≡ items_bytes labels two (items_at text at))
+  bytes-turn two next e = let n = item-split text at next e in (sums_next (operand_tokens text at) (parts_to text next) (rw n at g), bytes-here two (parts_to text next) n)
 
-  pub bytes_next : (two : Bool) (p : ℕ) → p ≡ stop_at text at → comma_at text p ≡ true
-      → PartsAreSums (items_at text (p + 1)) × (pick two (word_bytes w.value) (low_byte w.value ∷ []) ++ items_bytes labels two (items_at text (p + 1)) ≡ items_bytes labels two (items_at text at))
-  bytes_next two p q k = let n = item-next text at p q k in (sums_next (operand_tokens text at) (items_at text (p + 1)) (rw n at g), bytes-here two (items_at text (p + 1)) n)
-
-  pub turn_last : (two stands byte : Bool) (p : ℕ) → w.known ≡ true → byte ≡ is_byte w.value → p ≡ stop_at text at → comma_at text p ≡ false → pick (stands && (two || byte)) 0 34 ≡ number_from labels two stands (items_at text at)
-  turn_last two stands byte p h b q k = sym (number-none labels two (stands && (two || byte))) ∙ turn two stands byte [] h b (item-last text at p q k)
-
-  pub turn-next : (two stands byte : Bool) (p : ℕ) → w.known ≡ true → byte ≡ is_byte w.value → p ≡ stop_at text at → comma_at text p ≡ true
-      → PartsAreSums (items_at text (p + 1)) × (number_from labels two (stands && (two || byte)) (items_at text (p + 1)) ≡ number_from labels two stands (items_at text at))
-  turn-next two stands byte p h b q k = let n = item-next text at p q k in (sums_next (operand_tokens text at) (items_at text (p + 1)) (rw n at g), turn two stands byte (items_at text (p + 1)) h b n)
+  pub number-turn : (two stands byte : Bool) (next : Option ℕ) → w.known ≡ true → byte ≡ is_byte w.value → next ≡ next_part text at
+      → PartsAreSums (parts_to text next) × (number_from labels two (stands && (two || byte)) (parts_to text next) ≡ number_from labels two stands (items_at text at))
+  number-turn two stands byte next h b e = let n = item-split text at next e in (sums_next (operand_tokens text at) (parts_to text next) (rw n at g), turn two stands byte (parts_to text next) h b n)
 
 pub bytes-none : (labels : List Label) (two : Bool) → items_bytes labels two [] ≡ []
 unfolding items_bytes
 bytes-none labels two = refl
+
+-- what is left of the items gives the number that all give, and laying them lays all
+abbrev pub NumberStands : List Label → List ℕ → Bool → ℕ → Bool → Option ℕ → Type 0
+NumberStands labels text two place stands item =
+    PartsAreSums (data_at text place) → PartsAreSums (parts_to text item) × (number_from labels two stands (parts_to text item) ≡ number_from labels two true (data_at text place))
+
+abbrev pub LayingStands : List Label → List ℕ → Bool → ℕ → List ℕ → List ℕ → ℕ → Option ℕ → Type 0
+LayingStands labels text two place start code next item =
+    PartsAreSums (data_at text place) → PartsAreSums (parts_to text item) × (laid_at code next (items_bytes labels two (parts_to text item)) ≡ laid_at start 0 (items_bytes labels two (data_at text place)))

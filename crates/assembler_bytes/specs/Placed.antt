@@ -1,65 +1,139 @@
--- Instructions by their entry's number and up to three operands, as the code has them.
-use Rattle.std.specs.Prelude.{Bool, true, ◌&&◌, ◌||◌, List, [], ◌∷◌, ℕ, ◌/◌, ◌%◌, eqb, ltb}
+-- The places of an instruction with their operands and what these are worth, as the code has them.
+use Rattle.std.specs.Prelude.{Bool, true, false, List, [], ◌∷◌, ◌++◌, ℕ, ◌+◌, ◌*◌, ◌/◌, ◌%◌, Option, Some, None, eqb, ltb, drop, fold, count_by, slice_index_or}
+use Rattle.ground_rules.specs.Bytes.{low_byte}
 use Rattle.ground_rules.specs.Choice.{pick}
-use Rattle.listing_rules.specs.Entries.{OperandKind, Entry, entry}
-use Rattle.listing_rules.specs.Entries.OperandKind.{'R, 'G, 'P, 'M, 'byte, 'word, 'bit, 'width, 'short, 'long}
-use Rattle.assembly_rules.specs.Operands.{Written}
-use Rattle.assembly_rules.specs.Statements.{is_byte, reach_to, is_near}
+use Rattle.assembly_rules.specs.declared.Worth.{Worth}
+use Rattle.assembly_rules.specs.Text.{tokens_of}
+use Rattle.assembly_rules.specs.Sums.{Label, worth, sum_worth}
+use Rattle.assembly_rules.specs.Operands.{is_memory_kind}
+use Rattle.assembly_rules.specs.Statements.{may_stand, is_digit_kind, number_bytes}
+use Rattle.assembler_forms.specs.declared.operands.Sum.{Sum}
 use Rattle.assembler_forms.specs.declared.operands.Form.{Form}
-use Rattle.assembler_forms.specs.declared.operands.Form.TheVariants.{NoOperand}
-use Rattle.assembler_forms.specs.declared.operands.Operands.{Operands}
-use Rattle.assembler_forms.specs.Forms.{written_form}
+use Rattle.assembler_forms.specs.declared.operands.Form.TheVariants.{Register, Memory, Offset, Value}
+use Rattle.assembler_forms.specs.declared.table.EntryCode.{EntryCode}
+use Rattle.assembler_forms.specs.declared.table.PlaceKind.{PlaceKind}
+use Rattle.assembler_forms.specs.Forms.{form_sum, indexing_number, offset_told}
+use Rattle.assembler_forms.specs.Table.{kind_of}
+use Rattle.assembler_bytes.specs.declared.placed.Placed.{Placed}
 
--- a kind of place by its digit; where there is no place, one that asks for nothing
-unfoldable pub kind_from : ℕ → OperandKind
-kind_from n =
-    pick (eqb n 2) 'G
-    (pick (eqb n 3) 'P
-    (pick (eqb n 4) 'M
-    (pick (eqb n 5) 'byte
-    (pick (eqb n 6) 'word
-    (pick (eqb n 7) 'bit
-    (pick (eqb n 8) 'width
-    (pick (eqb n 9) 'short
-    (pick (eqb n 10) 'long 'R))))))))
+-- the sum of an operand, and what it is worth
+abbrev pub sum_by : Option Form → Option Sum
+sum_by None = None
+sum_by (Some f) = form_sum f
 
--- the three digits of an entry's number
-abbrev pub first_kind : ℕ → ℕ
-first_kind number = number / 0x10000000 % 16
+abbrev pub sum_at : List Label → List ℕ → Option Sum → Worth
+sum_at labels text None = worth 0 true
+sum_at labels text (Some s) = sum_worth labels (tokens_of (drop s.place text))
 
-abbrev pub second_kind : ℕ → ℕ
-second_kind number = number / 0x1000000 % 16
+abbrev pub worth_by : List Label → List ℕ → Option Form → Worth
+worth_by labels text f = sum_at labels text (sum_by f)
 
-abbrev pub third_kind : ℕ → ℕ
-third_kind number = number / 0x100000 % 16
+-- a place with its operand, and the three of an entry
+abbrev pub placed_in : List Label → List ℕ → Option PlaceKind → Option Form → Placed
+placed_in labels text k f = record { kind = k; form = f; worth = worth_by labels text f }
 
--- an entry by its number, with three places
-unfoldable pub entry_from : ℕ → Entry
-entry_from number =
-    entry [] (kind_from (first_kind number) ∷ kind_from (second_kind number) ∷ kind_from (third_kind number) ∷ []) (number / 0x10000 % 16)
-    (number / 0x1000 % 16)
-    (number / 0x100 % 16)
-    (number % 256)
+abbrev pub all_placed : List Label → List ℕ → List (Option PlaceKind) → List (Option Form) → List Placed
+all_placed labels text ks fs =
+    placed_in labels text (slice_index_or ks 0 None) (slice_index_or fs 0 None)
+    ∷ placed_in labels text (slice_index_or ks 1 None) (slice_index_or fs 1 None)
+    ∷ placed_in labels text (slice_index_or ks 2 None) (slice_index_or fs 2 None)
+    ∷ []
 
--- no operand where there is no place
-unfoldable pub used_form : ℕ → Form → Form
-used_form kind f = pick (eqb kind 0) NoOperand f
+-- of a place: whether it is for memory, and whether a number may stand there; a place that is none asks for nothing
+abbrev pub memory_placed : Option PlaceKind → Bool
+memory_placed None = false
+memory_placed (Some k) = is_memory_kind (kind_of k)
 
--- three operands, and the instruction with them
-abbrev pub three_from : List ℕ → Form → Form → Form → List Written
-three_from text f g h = written_form text f ∷ written_form text g ∷ written_form text h ∷ []
-
-abbrev pub row_of : List ℕ → ℕ → Operands → List Written
-row_of text number o = three_from text (used_form (first_kind number) o.first) (used_form (second_kind number) o.second) (used_form (third_kind number) o.third)
-
--- by a place's digit: its bytes, whether a number may stand there, and the number that is laid there
-unfoldable pub kind_size_by : ℕ → ℕ
-kind_size_by kind = pick (eqb kind 5 || eqb kind 9) 1 (pick (eqb kind 6 || eqb kind 10) 2 0)
-
-unfoldable pub may_stand_by : ℕ → ℕ → ℕ → Bool
-may_stand_by kind end n =
-    pick (eqb kind 4 || eqb kind 5) (is_byte n) (pick (eqb kind 7) (ltb n 8) (pick (eqb kind 8) (eqb n 8 || eqb n 16) (pick (eqb kind 9) (is_near (reach_to end n)) true)))
+abbrev pub stand_by : Option PlaceKind → ℕ → ℕ → Bool
+stand_by None end n = true
+stand_by (Some k) end n = may_stand (kind_of k) end n
 
 -- more than one memory operand
-unfoldable pub moves_by : ℕ → ℕ → ℕ → Bool
-moves_by a b c = (eqb a 4 && eqb b 4) || ((eqb a 4 && eqb c 4) || (eqb b 4 && eqb c 4))
+abbrev pub are_moved : List Placed → Bool
+are_moved ps = ltb 1 (count_by (λ (p : Placed). memory_placed p.kind) ps)
+
+-- a bit's number or a width
+abbrev pub digit_by : Option PlaceKind → Option Form → Bool
+digit_by None f = false
+digit_by (Some k) None = false
+digit_by (Some k) (Some (Register r)) = false
+digit_by (Some k) (Some (Memory mm mode)) = false
+digit_by (Some k) (Some (Offset mm s)) = false
+digit_by (Some k) (Some (Value s)) = is_digit_kind (kind_of k)
+
+-- RRR of a bit's number or of two widths, the second in the next place
+abbrev pub digits_after : ℕ → Option Placed → ℕ
+digits_after n None = n
+digits_after n (Some p) = pick (digit_by p.kind p.form) (4 + pick (eqb n 16) 2 0 + pick (eqb p.worth.value 16) 1 0) n
+
+-- RRR of an operand, or of those behind it
+abbrev pub register_placed : ℕ → Option Form → ℕ
+register_placed rest None = rest
+register_placed rest (Some (Register r)) = r
+register_placed rest (Some (Memory mm mode)) = rest
+register_placed rest (Some (Offset mm s)) = rest
+register_placed rest (Some (Value s)) = rest
+
+abbrev pub rrr_after : Placed → Option Placed → ℕ → ℕ
+rrr_after p next rest = pick (digit_by p.kind p.form) (digits_after p.worth.value next) (register_placed rest p.form)
+
+abbrev pub first_form : List Placed → Option Placed
+first_form [] = None
+first_form (p ∷ ps) = Some p
+
+unfoldable pub rrr_all : ℕ → List Placed → ℕ
+rrr_all d [] = d
+rrr_all d (p ∷ ps) = rrr_after p (first_form ps) (rrr_all d ps)
+
+-- MM and AA of an operand, or those before it
+abbrev pub mm_after : ℕ → Option Form → ℕ
+mm_after d None = d
+mm_after d (Some (Register r)) = d
+mm_after d (Some (Memory mm mode)) = mm
+mm_after d (Some (Offset mm s)) = mm
+mm_after d (Some (Value s)) = d
+
+abbrev pub aa_after : ℕ → Option Form → ℕ
+aa_after d None = d
+aa_after d (Some (Register r)) = d
+aa_after d (Some (Memory mm mode)) = indexing_number mode
+aa_after d (Some (Offset mm s)) = 1
+aa_after d (Some (Value s)) = d
+
+-- the bytes of the pair, mod 256
+abbrev pub first_byte : EntryCode → List Placed → ℕ
+first_byte code ps =
+    rrr_all (code.0 / 0x10000 % 16) ps % 8 * 32 + code.0 / 0x1000 % 16 * 8 + fold (λ (d : ℕ) (p : Placed). aa_after d p.form) 0 ps % 128 * 2 + code.0 / 0x100 % 16
+
+abbrev pub second_byte : EntryCode → List Placed → ℕ
+second_byte code ps = code.0 % 256 * 4 + fold (λ (d : ℕ) (p : Placed). mm_after d p.form) 0 ps % 256
+
+-- the offset byte of an operand, and the bytes of a number in its place
+abbrev pub offset_laid : Placed → List ℕ
+offset_laid p = pick (offset_told p.form) (low_byte p.worth.value ∷ []) []
+
+unfoldable pub offsets_laid : List Placed → List ℕ
+offsets_laid [] = []
+offsets_laid (p ∷ ps) = offset_laid p ++ offsets_laid ps
+
+abbrev pub number_placed : Option PlaceKind → ℕ → ℕ → List ℕ
+number_placed None end n = []
+number_placed (Some k) end n = number_bytes (kind_of k) end n
+
+abbrev pub number_laid : ℕ → Placed → List ℕ
+number_laid end p = number_placed p.kind end p.worth.value
+
+unfoldable pub numbers_laid : ℕ → List Placed → List ℕ
+numbers_laid end [] = []
+numbers_laid end (p ∷ ps) = number_laid end p ++ numbers_laid end ps
+
+-- the second pair of MOV M,M
+abbrev pub second_by : ℕ → Option Form → List ℕ
+second_by w None = []
+second_by w (Some (Register r)) = []
+second_by w (Some (Memory mm mode)) = (indexing_number mode * 2 + w) ∷ (0xCC + mm % 256) ∷ []
+second_by w (Some (Offset mm s)) = (2 + w) ∷ (0xCC + mm % 256) ∷ []
+second_by w (Some (Value s)) = []
+
+abbrev pub second_laid : ℕ → Placed → List ℕ
+second_laid w p = second_by w p.form

@@ -1,49 +1,61 @@
-// What a line of an assembly is worth: the number that refuses it, and its bytes.
+// What a line of an assembly is worth: why it is refused, if it is, and its bytes.
 #![tactic(auto)]
 
 // Data: DB and DW.
 mod data;
 // Bytes stored one behind another.
 mod stores;
-// Instructions: their operands' worth, and the number that refuses them.
+// The places of an instruction: their operands, and what these are worth.
+mod placed;
+// Instructions: whether one is refused, and their bytes.
 mod instructions;
-
-// The bytes of instructions.
-mod pairs;
 
 ghost use Rattle.std.specs.Prelude.{◌≡◌};
 ghost use Rattle.assembly_rules.specs.Statements.{Statement, statement_number, statement_bytes};
-ghost use Rattle.assembler_text.specs.Places.{labels_at};
-ghost use Rattle.assembler_lines.specs.Bodies.{BodyIs};
+ghost use Rattle.assembler_text.specs.Places.{labels_of};
+ghost use Rattle.assembler_lines.specs.Bodies.{Says, BodyIs, line_answered};
 ghost use Rattle.assembler_bytes.specs.Laid.{bytes_laid};
 
-use assembler_lines::bodies::Body;
+use assembler_lines::bodies::{Body, LineRefusal};
+use assembler_text::labels::Labels;
 
-// The number that refuses a line at an address, or 0: 30 to 32 as the line shows, 33 where a name is unknown, 34 where a number
-// may not stand.
-pub fn number(text: &[u8], b: Body, places: &[usize], addresses: &[u32], address: u32) -> u32
-    ensures { (s : Statement) → BodyIs text.now b s → result ≡ statement_number (labels_at text.now places.now addresses.now) address s }
+// Why what stands behind a label is refused at an address, if it is: a name is unknown, or a number may not stand.
+pub fn check(text: &[u8], body: Body, labels: &Labels, address: u32) -> Result<(), LineRefusal>
+    ensures { (s : Statement) → Says text.now body s → line_answered result ≡ statement_number (labels_of text.now labels.now) address s }
 {
-    match b {
-        Body::Blank => 0,
-        Body::Items(two, place, _) => data::data_number(text, two, place, places, addresses),
-        Body::Instruction(code, o) => instructions::instruction_number(
-            text, code, o, places, addresses, address,
+    match body {
+        Body::Blank => Ok(()),
+        Body::Items { two, place, .. } => data::check(text, two, place, labels),
+        Body::Instruction { code, operands } => instructions::check(
+            text, code, operands, labels, address,
         ),
-        Body::Refused(n) => n,
     }
 }
 
-// Lays the bytes of a line at an address at the start of a room, as many as there is room for.
-pub fn put(text: &[u8], b: Body, places: &[usize], addresses: &[u32], address: u32, code: &mut [u8])
-    ensures { (s : Statement) → BodyIs text.now b s → code.new ≡ bytes_laid (statement_bytes (labels_at text.now places.now addresses.now) address s) code.old }
+// Lays the bytes of what stands behind a label at an address at the start of a room, as many as there is room for.
+fn put_body(text: &[u8], body: Body, labels: &Labels, address: u32, room: &mut [u8])
+    ensures { (s : Statement) → Says text.now body s → room.new ≡ bytes_laid (statement_bytes (labels_of text.now labels.now) address s) room.old }
 {
-    match b {
+    match body {
         Body::Blank => {}
-        Body::Items(two, place, _) => data::put_data(text, two, place, places, addresses, code),
-        Body::Instruction(number, o) => pairs::put_instruction(
-            text, number, o, places, addresses, address, code,
+        Body::Items { two, place, .. } => data::put(text, two, place, labels, room),
+        Body::Instruction { code, operands } => instructions::put(
+            text, code, operands, labels, address, room,
         ),
-        Body::Refused(..) => {}
+    }
+}
+
+// The same of a line that may be refused, which then has none.
+pub fn put(
+    text: &[u8],
+    said: Result<Body, LineRefusal>,
+    labels: &Labels,
+    address: u32,
+    room: &mut [u8],
+)
+    ensures { (s : Statement) → BodyIs text.now said s → room.new ≡ bytes_laid (statement_bytes (labels_of text.now labels.now) address s) room.old }
+{
+    if let Ok(body) = said {
+        put_body(text, body, labels, address, room);
     }
 }

@@ -14,17 +14,22 @@ use Rattle.listing_rules.specs.Characters.{same_text}
 use Rattle.listing_rules.specs.Entries.{OperandKind, Entry, entries}
 use Rattle.listing_rules.specs.Entries.OperandKind.{'R, 'G, 'P, 'M, 'byte, 'word, 'bit, 'width, 'short, 'long}
 use Rattle.assembly_rules.specs.Operands.{Written, takes, takes_all, has_word, Chosen, entry_in}
-use Rattle.assembly_rules.specs.Operands.Written.{register, memory, value, nothing}
+use Rattle.assembly_rules.specs.Operands.Written.{nothing}
 use Rattle.assembly_rules.specs.Operands.Chosen.{taken, untaken}
 use Rattle.assembly_rules.proofs.WritingLaws.{both_left, both_right}
 use Rattle.assembly_rules.proofs.ScanLaws.{same-is}
+use Rattle.std.specs.Prelude.{Option, Some, None}
+use Rattle.std.specs.List.{find}
 use Rattle.assembler_forms.specs.declared.operands.Form.{Form}
-use Rattle.assembler_forms.specs.declared.operands.Form.TheVariants.{Register, Memory, Value, NoOperand}
-use Rattle.assembler_forms.specs.declared.operands.Operands.{Operands}
-use Rattle.assembler_forms.specs.declared.table.Codes.{Codes}
+use Rattle.assembler_forms.specs.declared.operands.Form.TheVariants.{Register, Memory, Offset, Value}
+use Rattle.assembler_forms.specs.declared.operands.Indexing.TheVariants.{Plain, Indexed, Stepped}
+use Rattle.assembler_forms.specs.declared.table.EntryCode.{EntryCode}
+use Rattle.assembler_forms.specs.declared.table.PlaceKind.{PlaceKind}
+use Rattle.assembler_forms.specs.declared.table.PlaceKind.TheVariants as kind
 use Rattle.assembler_forms.specs.Forms.{Formed, written_form}
-use Rattle.assembler_forms.specs.Rows.{OperandRow}
-use Rattle.assembler_forms.specs.Table.{packed_word, word_number, in_bytes, NumberIs, kind_code, kinds_code, entry_code, no_code, codes_by, codes_in, class_of, takes_class, takes_code, chosen_by, fitting_by}
+use Rattle.assembler_forms.specs.Rows.{FormsAre, Untaken}
+use Rattle.assembler_forms.specs.Rows.FormsAre.{none, one, two, three}
+use Rattle.assembler_forms.specs.Table.{packed_word, word_number, in_bytes, NumberIs, kind_code, kinds_code, entry_code, coded, codes_by, kind_of, kind_from, kinds_in, kind_takes, places_take, code_takes}
 
 byte-first : (c : ℕ) (cs : List ℕ) → in_bytes (c ∷ cs) ≡ true → c < 256
 unfolding in_bytes
@@ -67,79 +72,6 @@ packed-same (c ∷ a) (d ∷ b) h k = go (eqb c d) refl (packed-same a b (byte-r
         same z false f = ne_eqb (d % 256 + 256 * packed_word b) (c % 256 + 256 * packed_word a) (λ y. eqb-false (packed_word b) (packed_word a) f (omega (arith, ec, ed, lc, ld, z, y))) ∙ sym f
     go false e later = ne_eqb (d % 256 + 256 * packed_word b) (c % 256 + 256 * packed_word a) (λ y. eqb-false c d e (omega (arith, ec, ed, lc, ld, y)))
 
-no-class : (a b : Bool) (n : ℕ) → leb 4 n ≡ true → eqb (pick a 1 (pick b 3 2)) n ≡ false
-no-class true b n h = let l = leb-true 4 n h in ne_eqb 1 n (λ z. omega arith)
-no-class false true n h = let l = leb-true 4 n h in ne_eqb 3 n (λ z. omega arith)
-no-class false false n h = let l = leb-true 4 n h in ne_eqb 2 n (λ z. omega arith)
-
--- an operand's class is what a place asks for
-class-takes : (k : OperandKind) (w : Written) → takes_class (kind_code k) (class_of w) ≡ takes k w
-unfolding takes_class class_of takes
-class-takes 'R (register r) = go (ltb r 3 || eqb r 4) (eqb r 6)
-  where
-    go : (a b : Bool) → leb 1 (pick a 1 (pick b 3 2)) && leb (pick a 1 (pick b 3 2)) 3 ≡ true
-    go true b = refl
-    go false true = refl
-    go false false = refl
-class-takes 'G (register r) = go (eqb r 6) refl (ltb r 3) refl (eqb r 4) refl
-  where
-    go : (b : Bool) → eqb r 6 ≡ b → (x : Bool) → ltb r 3 ≡ x → (y : Bool) → eqb r 4 ≡ y → leb 1 (pick (x || y) 1 (pick b 3 2)) && leb (pick (x || y) 1 (pick b 3 2)) 2 ≡ not b
-    go true e true f y g = let p = eqb-true r 6 e in let q = ltb-true r 3 f in absurd (omega arith)
-    go true e false f true g = let p = eqb-true r 6 e in let q = eqb-true r 4 g in absurd (omega arith)
-    go true e false f false g = refl
-    go false e true f y g = refl
-    go false e false f true g = refl
-    go false e false f false g = refl
-class-takes 'P (register r) = go (ltb r 3 || eqb r 4) (eqb r 6)
-  where
-    go : (a b : Bool) → leb 1 (pick a 1 (pick b 3 2)) && leb (pick a 1 (pick b 3 2)) 1 ≡ a
-    go true b = refl
-    go false true = refl
-    go false false = refl
-class-takes 'M (register r) = no-class (ltb r 3 || eqb r 4) (eqb r 6) 4 refl
-class-takes 'byte (register r) = no-class (ltb r 3 || eqb r 4) (eqb r 6) 5 refl
-class-takes 'word (register r) = no-class (ltb r 3 || eqb r 4) (eqb r 6) 5 refl
-class-takes 'bit (register r) = no-class (ltb r 3 || eqb r 4) (eqb r 6) 5 refl
-class-takes 'width (register r) = no-class (ltb r 3 || eqb r 4) (eqb r 6) 5 refl
-class-takes 'short (register r) = no-class (ltb r 3 || eqb r 4) (eqb r 6) 5 refl
-class-takes 'long (register r) = no-class (ltb r 3 || eqb r 4) (eqb r 6) 5 refl
-class-takes 'R (memory mm aa ts) = refl
-class-takes 'G (memory mm aa ts) = refl
-class-takes 'P (memory mm aa ts) = refl
-class-takes 'M (memory mm aa ts) = refl
-class-takes 'byte (memory mm aa ts) = refl
-class-takes 'word (memory mm aa ts) = refl
-class-takes 'bit (memory mm aa ts) = refl
-class-takes 'width (memory mm aa ts) = refl
-class-takes 'short (memory mm aa ts) = refl
-class-takes 'long (memory mm aa ts) = refl
-class-takes 'R (value ts) = refl
-class-takes 'G (value ts) = refl
-class-takes 'P (value ts) = refl
-class-takes 'M (value ts) = refl
-class-takes 'byte (value ts) = refl
-class-takes 'word (value ts) = refl
-class-takes 'bit (value ts) = refl
-class-takes 'width (value ts) = refl
-class-takes 'short (value ts) = refl
-class-takes 'long (value ts) = refl
-class-takes 'R nothing = refl
-class-takes 'G nothing = refl
-class-takes 'P nothing = refl
-class-takes 'M nothing = refl
-class-takes 'byte nothing = refl
-class-takes 'word nothing = refl
-class-takes 'bit nothing = refl
-class-takes 'width nothing = refl
-class-takes 'short nothing = refl
-class-takes 'long nothing = refl
-
--- the class of an operand by its place among some, 0 where there is none
-pub class_at : ℕ → List Written → ℕ
-class_at n [] = 0
-class_at zero (w ∷ ws) = class_of w
-class_at (suc n) (w ∷ ws) = class_at n ws
-
 unfoldable pub kind_at : ℕ → List OperandKind → ℕ
 kind_at n [] = 0
 kind_at zero (k ∷ ks) = kind_code k
@@ -156,7 +88,7 @@ right_entry e =
     eqb (entry_code e / 0x10000000 % 16) (kind_at 0 e.kinds)
     && (eqb (entry_code e / 0x1000000 % 16) (kind_at 1 e.kinds)
     && (eqb (entry_code e / 0x100000 % 16) (kind_at 2 e.kinds)
-    && (leb (length e.kinds) 3 && (in_bytes e.word && (leb (length e.word) 6 && ltb (entry_code e) no_code)))))
+    && (leb (length e.kinds) 3 && (in_bytes e.word && (leb (length e.word) 6)))))
 
 pub entries-right : each_entry right_entry entries ≡ true
 unfolding each_entry right_entry entries entry_code kinds_code kind_at in_bytes
@@ -169,7 +101,6 @@ pub record Right (e : Entry) : Type 0 where
   pub few : length e.kinds ≤ 3
   pub bytes : in_bytes e.word ≡ true
   pub short : length e.word ≤ 6
-  pub some : entry_code e < no_code
 
 pub right_so : (e : Entry) → right_entry e ≡ true → Right e
 unfolding right_entry
@@ -180,15 +111,13 @@ right_so e a =
     let c = both_right (eqb (n / 0x1000000 % 16) (kind_at 1 ks)) _ b in
     let d = both_right (eqb (n / 0x100000 % 16) (kind_at 2 ks)) _ c in
     let f = both_right (leb (length ks) 3) _ d in
-    let g = both_right (in_bytes e.word) _ f in
     record {
       first = eqb-true (n / 0x10000000 % 16) (kind_at 0 ks) (both_left _ _ a);
       second = eqb-true (n / 0x1000000 % 16) (kind_at 1 ks) (both_left _ _ b);
       third = eqb-true (n / 0x100000 % 16) (kind_at 2 ks) (both_left _ _ c);
       few = leb-true (length ks) 3 (both_left _ _ d);
       bytes = both_left _ _ f;
-      short = leb-true (length e.word) 6 (both_left _ _ g);
-      some = ltb-true n no_code (both_right (leb (length e.word) 6) _ g);
+      short = leb-true (length e.word) 6 (both_right (in_bytes e.word) _ f);
     }
 
 right-first : (e : Entry) (es : List Entry) → each_entry right_entry (e ∷ es) ≡ true → Right e
@@ -199,69 +128,110 @@ right-rest : (e : Entry) (es : List Entry) → each_entry right_entry (e ∷ es)
 unfolding each_entry
 right-rest e es h = both_right (right_entry e) (each_entry right_entry es) h
 
-no_operand : (k : OperandKind) → takes_class (kind_code k) 0 ≡ false
-unfolding takes_class
-no_operand 'R = refl
-no_operand 'G = refl
-no_operand 'P = refl
-no_operand 'M = refl
-no_operand 'byte = refl
-no_operand 'word = refl
-no_operand 'bit = refl
-no_operand 'width = refl
-no_operand 'short = refl
-no_operand 'long = refl
+-- a kind as the code has it, by its digit
+abbrev pub kind_told : OperandKind → PlaceKind
+kind_told 'R = kind.Register
+kind_told 'G = kind.General
+kind_told 'P = kind.Pointer
+kind_told 'M = kind.Memory
+kind_told 'byte = kind.Byte
+kind_told 'word = kind.Word
+kind_told 'bit = kind.Bit
+kind_told 'width = kind.Width
+kind_told 'short = kind.Short
+kind_told 'long = kind.Long
 
-no_place : (w : Written) → takes_class 0 (class_of w) ≡ false
-unfolding takes_class class_of
-no_place (register r) = no_zero (ltb r 3 || eqb r 4) (eqb r 6)
-  where
-    no_zero : (a b : Bool) → eqb (pick a 1 (pick b 3 2)) 0 ≡ false
-    no_zero true b = refl
-    no_zero false true = refl
-    no_zero false false = refl
-no_place (memory mm aa ts) = refl
-no_place (value ts) = refl
-no_place nothing = refl
+pub kind-back : (k : OperandKind) → kind_of (kind_told k) ≡ k
+kind-back 'R = refl
+kind-back 'G = refl
+kind-back 'P = refl
+kind-back 'M = refl
+kind-back 'byte = refl
+kind-back 'word = refl
+kind-back 'bit = refl
+kind-back 'width = refl
+kind-back 'short = refl
+kind-back 'long = refl
 
-nothing-asked : takes_class 0 0 ≡ true
-unfolding takes_class
-nothing-asked = refl
+pub digit-told : (k : OperandKind) → kind_from (kind_code k) ≡ Some (kind_told k)
+unfolding kind_from
+digit-told 'R = refl
+digit-told 'G = refl
+digit-told 'P = refl
+digit-told 'M = refl
+digit-told 'byte = refl
+digit-told 'word = refl
+digit-told 'bit = refl
+digit-told 'width = refl
+digit-told 'short = refl
+digit-told 'long = refl
 
-none-take : (ws : List Written) → length ws ≤ 3 → takes_class 0 (class_at 0 ws) && (takes_class 0 (class_at 1 ws) && takes_class 0 (class_at 2 ws)) ≡ takes_all [] ws
-unfolding takes_all class_at
-none-take [] l = rw nothing-asked
-none-take (w ∷ ws) l = rw (no_place w)
+pub digit-none : kind_from 0 ≡ None
+unfolding kind_from
+digit-none = refl
 
-one-take : (ks : List OperandKind) (ws : List Written) → length ks ≤ 1 → length ws ≤ 1 → takes_class (kind_at 0 ks) (class_at 0 ws) ≡ takes_all ks ws
-unfolding takes_all kind_at class_at
-one-take [] [] h l = nothing-asked
-one-take [] (w ∷ ws) h l = no_place w
-one-take (k ∷ ks) [] h l = no_operand k
-one-take (k ∷ []) (w ∷ []) h l = class-takes k w ∙ and-true (takes k w)
-  where
-    and-true : (b : Bool) → b ≡ b && true
-    and-true true = refl
-    and-true false = refl
-one-take (k ∷ j ∷ ks) (w ∷ ws) h l = absurd (omega arith)
-one-take (k ∷ []) (w ∷ v ∷ ws) h l = absurd (omega arith)
+-- the kinds of places as the code has them: three, none behind the last
+abbrev pub told_all : List OperandKind → List (Option PlaceKind)
+told_all [] = None ∷ None ∷ None ∷ []
+told_all (k ∷ []) = Some (kind_told k) ∷ None ∷ None ∷ []
+told_all (k ∷ j ∷ []) = Some (kind_told k) ∷ Some (kind_told j) ∷ None ∷ []
+told_all (k ∷ j ∷ i ∷ ks) = Some (kind_told k) ∷ Some (kind_told j) ∷ Some (kind_told i) ∷ []
 
-two-take : (ks : List OperandKind) (ws : List Written) → length ks ≤ 2 → length ws ≤ 2 → takes_class (kind_at 0 ks) (class_at 0 ws) && takes_class (kind_at 1 ks) (class_at 1 ws) ≡ takes_all ks ws
-unfolding takes_all kind_at class_at
-two-take [] [] h l = rw nothing-asked
-two-take [] (w ∷ ws) h l = rw (no_place w)
-two-take (k ∷ ks) [] h l = rw (no_operand k)
-two-take (k ∷ ks) (w ∷ ws) h l = ap (λ (b : Bool). takes_class (kind_code k) (class_of w) && b) (one-take ks ws (omega arith) (omega arith)) ∙ ap (λ (b : Bool). b && takes_all ks ws) (class-takes k w)
+digits-told : (ks : List OperandKind) → kind_from (kind_at 0 ks) ∷ kind_from (kind_at 1 ks) ∷ kind_from (kind_at 2 ks) ∷ [] ≡ told_all ks
+unfolding kind_at
+digits-told [] = rw digit-none
+digits-told (k ∷ []) = rw (digit-told k, digit-none)
+digits-told (k ∷ j ∷ []) = rw (digit-told k, digit-told j, digit-none)
+digits-told (k ∷ j ∷ i ∷ ks) = rw (digit-told k, digit-told j, digit-told i)
 
-all_take : (ks : List OperandKind) (ws : List Written) → length ks ≤ 3 → length ws ≤ 3 → takes_class (kind_at 0 ks) (class_at 0 ws) && (takes_class (kind_at 1 ks) (class_at 1 ws) && takes_class (kind_at 2 ks) (class_at 2 ws)) ≡ takes_all ks ws
-unfolding takes_all kind_at class_at
-all_take [] ws h l = none-take ws l
-all_take (k ∷ ks) [] h l = rw (no_operand k)
-all_take (k ∷ ks) (w ∷ ws) h l = ap (λ (b : Bool). takes_class (kind_code k) (class_of w) && b) (two-take ks ws (omega arith) (omega arith)) ∙ ap (λ (b : Bool). b && takes_all ks ws) (class-takes k w)
+pub kinds-told : (e : Entry) → Right e → kinds_in (coded e) ≡ told_all e.kinds
+unfolding kinds_in
+kinds-told e r = rw (r.first, r.second, r.third) (digits-told e.kinds)
 
-code-takes : (e : Entry) (ws : List Written) → Right e → length ws ≤ 3 → takes_code (entry_code e) (class_at 0 ws) (class_at 1 ws) (class_at 2 ws) ≡ takes_all e.kinds ws
-unfolding takes_code
-code-takes e ws h l = rw (h.first, h.second, h.third) (all_take e.kinds ws h.few l)
+-- what a place takes does not depend on the text
+takes-form : (text : List ℕ) (k : OperandKind) (f : Form) → takes k (written_form [] f) ≡ takes k (written_form text f)
+unfolding takes
+takes-form text k (Register r) = refl
+takes-form text k (Memory mm Plain) = refl
+takes-form text k (Offset mm s) = refl
+takes-form text k (Memory mm Indexed) = refl
+takes-form text k (Memory mm Stepped) = refl
+takes-form text k (Value s) = refl
+
+place-told : (text : List ℕ) (k : OperandKind) (f : Form) (w : Written) → Formed text (Some f) w → kind_takes (kind_told k) f ≡ takes k w
+place-told text k f w h = ap (λ (x : OperandKind). takes x (written_form [] f)) (kind-back k) ∙ takes-form text k f ∙ ap (takes k) h.same
+
+and-true : (b : Bool) → b && true ≡ b
+and-true true = refl
+and-true false = refl
+
+and-false : (b : Bool) → b && false ≡ false
+and-false true = refl
+and-false false = refl
+
+pub all_take : (text : List ℕ) (ks : List OperandKind) (fs : List (Option Form)) (ws : List Written) → length ks ≤ 3 → FormsAre text fs ws → places_take (told_all ks) fs ≡ takes_all ks ws
+unfolding takes_all
+all_take text [] fs ws l none = refl
+all_take text [] fs ws l (one h) = refl
+all_take text [] fs ws l (two h i) = refl
+all_take text [] fs ws l (three h i j) = refl
+all_take text (k ∷ []) fs ws l none = refl
+all_take text (k ∷ []) fs ws l (one {f = f} {u = u} h) = rw (place-told text k f u h)
+all_take text (k ∷ []) fs ws l (two {f = f} {u = u} h i) = rw (place-told text k f u h, and-false (takes k u))
+all_take text (k ∷ []) fs ws l (three {f = f} {u = u} h i j) = rw (place-told text k f u h, and-false (takes k u))
+all_take text (k ∷ m ∷ []) fs ws l none = refl
+all_take text (k ∷ m ∷ []) fs ws l (one {f = f} {u = u} h) = rw (place-told text k f u h, and-false (takes k u))
+all_take text (k ∷ m ∷ []) fs ws l (two {f = f} {g = g} {u = u} {v = v} h i) = rw (place-told text k f u h, place-told text m g v i)
+all_take text (k ∷ m ∷ []) fs ws l (three {f = f} {g = g} {u = u} {v = v} h i j) = rw (place-told text k f u h, place-told text m g v i, and-false (takes m v))
+all_take text (k ∷ m ∷ n ∷ []) fs ws l none = refl
+all_take text (k ∷ m ∷ n ∷ []) fs ws l (one {f = f} {u = u} h) = rw (place-told text k f u h, and-false (takes k u))
+all_take text (k ∷ m ∷ n ∷ []) fs ws l (two {f = f} {g = g} {u = u} {v = v} h i) = rw (place-told text k f u h, place-told text m g v i, and-false (takes m v))
+all_take text (k ∷ m ∷ n ∷ []) fs ws l (three {f = f} {g = g} {h = o} {u = u} {v = v} {w = w} h i j) = rw (place-told text k f u h, place-told text m g v i, place-told text n o w j)
+all_take text (k ∷ m ∷ n ∷ o ∷ ks) fs ws l r = absurd (omega arith)
+
+code-takes : (text : List ℕ) (e : Entry) (fs : List (Option Form)) (ws : List Written) → Right e → FormsAre text fs ws → code_takes (coded e) fs ≡ takes_all e.kinds ws
+unfolding code_takes
+code-takes text e fs ws r h = ap (λ (ks : List (Option PlaceKind)). places_take ks fs) (kinds-told e r) ∙ all_take text e.kinds fs ws r.few h
 
 -- a word by its number
 pub word_same : (w r : List ℕ) → in_bytes w ≡ true → length w ≤ 6 → {n : ℕ} → NumberIs n r → eqb n (packed_word w) ≡ same_text w r
@@ -277,9 +247,9 @@ word_same w r h l k = ap (λ (m : ℕ). eqb m (packed_word w)) k.number ∙ go (
     go false e = packed-same w r h k.bytes
 
 -- what the code chooses: the entry's number, or none
-abbrev pub chosen_number : Chosen → ℕ
-chosen_number (taken e) = entry_code e
-chosen_number untaken = no_code
+abbrev pub chosen_code : Chosen → Option EntryCode
+chosen_code (taken e) = Some (coded e)
+chosen_code untaken = None
 
 pub takes-length : (ks : List OperandKind) (ws : List Written) → takes_all ks ws ≡ true → length ks ≡ length ws
 unfolding takes_all
@@ -288,83 +258,69 @@ takes-length [] (w ∷ ws) h = absurd (false≢true h)
 takes-length (k ∷ ks) [] h = absurd (false≢true h)
 takes-length (k ∷ ks) (w ∷ ws) h = ap suc (takes-length ks ws (both_right (takes k w) (takes_all ks ws) h))
 
--- a class does not depend on the text
-class-form : (text : List ℕ) (f : Form) (w : Written) → Formed text f w → class_of (written_form [] f) ≡ class_of w
-unfolding class_of
-class-form text f w h = go f ∙ ap class_of h.same
-  where
-    go : (f : Form) → class_of (written_form [] f) ≡ class_of (written_form text f)
-    go (Register r) = refl
-    go (Memory mm aa place low) = refl
-    go (Value place low) = refl
-    go NoOperand = refl
+-- no more than three places take these operands
+pub untaken-none : (ws : List Written) → Untaken (nothing ∷ ws)
+unfolding takes_all takes
+untaken-none ws [] l = refl
+untaken-none ws (k ∷ ks) l = refl
 
-abbrev is_some : List ℕ → Bool
-is_some [] = false
-is_some (c ∷ cs) = true
+pub untaken-next : (w : Written) (ws : List Written) → Untaken ws → Untaken (w ∷ ws)
+unfolding takes_all
+untaken-next w ws h [] l = refl
+untaken-next w ws h (k ∷ ks) l = rw (h ks (omega arith), and-false (takes k w))
+
+pub untaken-more : (u v w x : Written) (ws : List Written) → Untaken (u ∷ v ∷ w ∷ x ∷ ws)
+untaken-more u v w x ws ks l = go (takes_all ks (u ∷ v ∷ w ∷ x ∷ ws)) refl
+  where
+    go : (b : Bool) → takes_all ks (u ∷ v ∷ w ∷ x ∷ ws) ≡ b → b ≡ false
+    go true e = absurd (omega (arith, takes-length ks (u ∷ v ∷ w ∷ x ∷ ws) e))
+    go false e = refl
 
 module _ (r : List ℕ) (n : ℕ) (k : NumberIs n r) where
-  chosen-from : (es : List Entry) (ws : List Written) → each_entry right_entry es ≡ true → length ws ≤ 3 → chosen_by (codes_by es n) (class_at 0 ws) (class_at 1 ws) (class_at 2 ws) ≡ chosen_number (entry_in es r ws)
-  unfolding codes_by entry_in chosen_by
-  chosen-from [] ws h m = refl
-  chosen-from (e ∷ es) ws h m =
+  -- the entry of a word with its operands, as the code has them
+  chosen-from : (text : List ℕ) (fs : List (Option Form)) (es : List Entry) (ws : List Written) → each_entry right_entry es ≡ true → FormsAre text fs ws → find (λ (c : EntryCode). code_takes c fs) (codes_by es n) ≡ chosen_code (entry_in es r ws)
+  unfolding codes_by entry_in
+  chosen-from text fs [] ws h m = refl
+  chosen-from text fs (e ∷ es) ws h m =
       let right = right-first e es h in
-      go (eqb n (packed_word e.word)) (same_text e.word r) (takes_all e.kinds ws) (word_same e.word r right.bytes right.short k) (code-takes e ws right m) (chosen-from es ws (right-rest e es h) m)
+      go (eqb n (packed_word e.word)) (same_text e.word r) (takes_all e.kinds ws) (word_same e.word r right.bytes right.short k) (code-takes text e fs ws right m) (chosen-from text fs es ws (right-rest e es h) m)
     where
-      a : ℕ
-      a = class_at 0 ws
-
-      b : ℕ
-      b = class_at 1 ws
-
-      c : ℕ
-      c = class_at 2 ws
-
-      go : (x y z : Bool) → x ≡ y → takes_code (entry_code e) a b c ≡ z → chosen_by (codes_by es n) a b c ≡ chosen_number (entry_in es r ws)
-          → chosen_by (pick x (entry_code e ∷ codes_by es n) (codes_by es n)) a b c ≡ chosen_number (pick (y && z) (taken e) (entry_in es r ws))
+      go : (x y z : Bool) → x ≡ y → code_takes (coded e) fs ≡ z → find (λ (c : EntryCode). code_takes c fs) (codes_by es n) ≡ chosen_code (entry_in es r ws)
+          → find (λ (c : EntryCode). code_takes c fs) (pick x (coded e ∷ codes_by es n) (codes_by es n)) ≡ chosen_code (pick (y && z) (taken e) (entry_in es r ws))
       go true true true p q later = rw q
       go true true false p q later = rw q later
       go true false z p q later = absurd (false≢true (sym p))
       go false true z p q later = absurd (false≢true p)
       go false false z p q later = later
 
-  -- no entry takes more than three operands
-  too_many : (es : List Entry) (ws : List Written) → each_entry right_entry es ≡ true → 3 < length ws → entry_in es r ws ≡ untaken
+  pub fitting-told : (text : List ℕ) (fs : List (Option Form)) (ws : List Written) → FormsAre text fs ws → find (λ (c : EntryCode). code_takes c fs) (codes_by entries n) ≡ chosen_code (entry_in entries r ws)
+  fitting-told text fs ws h = chosen-from text fs entries ws entries-right h
+
+  -- operands that no three places take have no entry
+  untaken-from : (es : List Entry) (ws : List Written) → each_entry right_entry es ≡ true → Untaken ws → entry_in es r ws ≡ untaken
   unfolding entry_in
-  too_many [] ws h m = refl
-  too_many (e ∷ es) ws h m = go (same_text e.word r) (takes_all e.kinds ws) refl (too_many es ws (right-rest e es h) m)
+  untaken-from [] ws h m = refl
+  untaken-from (e ∷ es) ws h m = go (same_text e.word r) (takes_all e.kinds ws) (m e.kinds (right-first e es h).few) (untaken-from es ws (right-rest e es h) m)
     where
-      go : (x y : Bool) → takes_all e.kinds ws ≡ y → entry_in es r ws ≡ untaken → pick (x && y) (taken e) (entry_in es r ws) ≡ untaken
-      go true true p later = absurd (omega (arith, takes-length e.kinds ws p, (right-first e es h).few, m))
+      go : (x y : Bool) → y ≡ false → entry_in es r ws ≡ untaken → pick (x && y) (taken e) (entry_in es r ws) ≡ untaken
+      go true true p later = absurd (false≢true (sym p))
       go true false p later = later
       go false y p later = later
 
-  -- the entry of a word with its operands, as the code has them
-  pub fitting-told : (text : List ℕ) (o : Operands) (ws : List Written) → OperandRow text o ws → fitting_by (codes_by entries n) o ≡ chosen_number (entry_in entries r ws)
-  unfolding fitting_by class_at
-  fitting-told text o [] h = rw h (chosen-from entries [] entries-right (omega arith))
-  fitting-told text o (u ∷ []) h = rw (h.0, class-form text o.first u h.1) (chosen-from entries (u ∷ []) entries-right (omega arith))
-  fitting-told text o (u ∷ v ∷ []) h = rw (h.0, class-form text o.first u h.1.0, class-form text o.second v h.1.1) (chosen-from entries (u ∷ v ∷ []) entries-right (omega arith))
-  fitting-told text o (u ∷ v ∷ w ∷ []) h =
-      rw (h.0, class-form text o.first u h.1.0, class-form text o.second v h.1.1.0, class-form text o.third w h.1.1.1) (chosen-from entries (u ∷ v ∷ w ∷ []) entries-right (omega arith))
-  fitting-told text o (u ∷ v ∷ w ∷ x ∷ ws) h = rw (h, too_many entries (u ∷ v ∷ w ∷ x ∷ ws) entries-right (omega arith))
+  pub untaken-told : (ws : List Written) → Untaken ws → entry_in entries r ws ≡ untaken
+  untaken-told ws h = untaken-from entries ws entries-right h
 
   -- and whether a word has entries
-  has-from : (es : List Entry) → each_entry right_entry es ≡ true → has_word es r ≡ is_some (codes_by es n)
+  has-from : (es : List Entry) → each_entry right_entry es ≡ true → has_word es r ≡ not (eqb (length (codes_by es n)) 0)
   unfolding codes_by has_word
   has-from [] h = refl
   has-from (e ∷ es) h = let right = right-first e es h in go (eqb n (packed_word e.word)) (same_text e.word r) (word_same e.word r right.bytes right.short k) (has-from es (right-rest e es h))
     where
-      go : (x y : Bool) → x ≡ y → has_word es r ≡ is_some (codes_by es n) → y || has_word es r ≡ is_some (pick x (entry_code e ∷ codes_by es n) (codes_by es n))
-      go true true p later = refl
+      go : (x y : Bool) → x ≡ y → has_word es r ≡ not (eqb (length (codes_by es n)) 0) → y || has_word es r ≡ not (eqb (length (pick x (coded e ∷ codes_by es n) (codes_by es n))) 0)
+      go true true p later = sym (ap not (ne_eqb (length (coded e ∷ codes_by es n)) 0 (λ z. omega arith)))
       go true false p later = absurd (false≢true (sym p))
       go false true p later = absurd (false≢true p)
       go false false p later = later
 
-  pub word-told : (c : Codes) → codes_in c ≡ codes_by entries n → has_word entries r ≡ not (eqb c.0 no_code)
-  unfolding codes_in
-  word-told c e = has-from entries entries-right ∙ ap is_some (sym e) ∙ go _ (eqb c.0 no_code)
-    where
-      go : (more : List ℕ) (b : Bool) → is_some (pick b [] (c.0 ∷ more)) ≡ not b
-      go more true = refl
-      go more false = refl
+  pub word-told : (codes : List EntryCode) → codes ≡ codes_by entries n → has_word entries r ≡ not (eqb (length codes) 0)
+  word-told codes e = has-from entries entries-right ∙ ap (λ (cs : List EntryCode). not (eqb (length cs) 0)) (sym e)

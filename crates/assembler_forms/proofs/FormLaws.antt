@@ -1,5 +1,7 @@
 -- Operands token by token: what the code's tests say of the tokens at a place, and the form that follows.
 -- Assumes nothing.
+use Rattle.std.specs.Prelude.{Option, Some, None}
+use Rattle.std.specs.Bool.{then_some}
 use mathlib.Core.Path.{◌≡◌, refl, sym, ap, subst, ◌∙◌}
 use mathlib.Core.Bool.{Bool, true, false, ◌&&◌, false≢true}
 use mathlib.Core.List.{List, [], ◌∷◌}
@@ -7,7 +9,7 @@ use Prim.Native.Nat.{ℕ, ◌≤◌, ◌<◌}
 use native.Mathlib.Omega.{arith}
 use lib.Dec.{eqb, ltb, leb}
 use lib.ListN.{drop}
-use borrow.Author.Tests.{ltb-true, eqb-true, eqb-false, eq-eqb, ne_eqb, lt-ltb, le-ltb}
+use borrow.Author.Tests.{ltb-true, eqb-true, eqb-false, eq-eqb, ne_eqb, lt-ltb, le-ltb, ltb-false}
 use Rattle.ground_rules.specs.Choice.{pick}
 use Rattle.assembly_rules.specs.declared.Scan.{Scan}
 use Rattle.assembly_rules.specs.Text.{Token, capitals, tokens_of, before_comma}
@@ -17,27 +19,30 @@ use Rattle.assembly_rules.specs.Operands.{Written, closed_memory, ended_memory, 
 use Rattle.assembly_rules.specs.Operands.Written.{register, memory, value, nothing}
 use Rattle.assembly_rules.proofs.WritingLaws.{both_left, both_right}
 use Rattle.assembly_rules.proofs.ScanLaws.{no-register-sum}
-use Rattle.assembler_text.specs.declared.tokens.TokenFound.{TokenFound}
-use Rattle.assembler_text.specs.declared.tokens.TokenFound.TheVariants.{Nothing, Run, Mark}
+use Rattle.assembler_text.specs.declared.tokens.TokenFound.{TokenFound as Found}
+use Rattle.assembler_text.specs.declared.tokens.TokenFound.TheVariants.{Run, Mark}
 use Rattle.assembler_text.specs.Places.{between, token_at}
 use Rattle.assembler_text.proofs.PlaceLaws.{no-tokens-there, run-tokens, mark-tokens, mark-lies, before-none, before-run, before-mark}
+use Rattle.assembler_forms.specs.declared.operands.Named.{Named}
+use Rattle.assembler_forms.specs.declared.operands.Sum.{Sum}
+use Rattle.assembler_forms.specs.declared.operands.Indexing.TheVariants.{Plain, Indexed, Stepped}
 use Rattle.assembler_forms.specs.declared.operands.Form.{Form}
-use Rattle.assembler_forms.specs.declared.operands.Form.TheVariants.{Register, Memory, Value, NoOperand}
-use Rattle.assembler_forms.specs.Forms.{mark_by, past_mark, stops_by, stops_at, register_by, register_at, operand_tokens, Formed}
+use Rattle.assembler_forms.specs.declared.operands.Form.TheVariants.{Register, Memory, Offset, Value}
+use Rattle.assembler_forms.specs.Forms.{mark_by, past_mark, stops_by, stops_at, named, register_by, register_at, base_at, operand_tokens, whole_sum, Formed}
 
 -- the tokens of an operand by the token found at its place: none, a run, or a character that is no comma
-pub data Begins (text : List ℕ) (at : ℕ) : TokenFound → Type 0 where
-  ended : operand_tokens text at ≡ [] → Begins text at Nothing
-  comma : {next : ℕ} {c : ℕ} → c ≡ 44 → operand_tokens text at ≡ [] → Begins text at (Mark c next)
-  word : {from to : ℕ} → operand_tokens text at ≡ run (capitals (between text from to)) ∷ operand_tokens text to → Begins text at (Run from to)
-  single : {c next : ℕ} → (c ≡ 44 → ⊥) → 0 < next → operand_tokens text at ≡ mark c ∷ operand_tokens text next → Begins text at (Mark c next)
+pub data Begins (text : List ℕ) (at : ℕ) : Option Found → Type 0 where
+  ended : operand_tokens text at ≡ [] → Begins text at None
+  comma : {next : ℕ} {c : ℕ} → c ≡ 44 → operand_tokens text at ≡ [] → Begins text at (Some (Mark c next))
+  word : {from to : ℕ} → operand_tokens text at ≡ run (capitals (between text from to)) ∷ operand_tokens text to → Begins text at (Some (Run from to))
+  single : {c next : ℕ} → (c ≡ 44 → ⊥) → 0 < next → operand_tokens text at ≡ mark c ∷ operand_tokens text next → Begins text at (Some (Mark c next))
 
-begins-by : (text : List ℕ) (at : ℕ) (f : TokenFound) → token_at text at ≡ f → Begins text at f
-begins-by text at Nothing e = ended (ap before_comma (no-tokens-there text at e) ∙ before-none)
-begins-by text at (Run from to) e = word (ap before_comma (run-tokens text at from to e) ∙ before-run (capitals (between text from to)) (tokens_of (drop to text)))
-begins-by text at (Mark c next) e = go (eqb c 44) refl
+begins-by : (text : List ℕ) (at : ℕ) (f : Option Found) → token_at text at ≡ f → Begins text at f
+begins-by text at None e = ended (ap before_comma (no-tokens-there text at e) ∙ before-none)
+begins-by text at (Some (Run from to)) e = word (ap before_comma (run-tokens text at from to e) ∙ before-run (capitals (between text from to)) (tokens_of (drop to text)))
+begins-by text at (Some (Mark c next)) e = go (eqb c 44) refl
   where
-    go : (b : Bool) → eqb c 44 ≡ b → Begins text at (Mark c next)
+    go : (b : Bool) → eqb c 44 ≡ b → Begins text at (Some (Mark c next))
     go true h = comma (eqb-true c 44 h) (ap before_comma (mark-tokens text at c next e) ∙ before-mark c (tokens_of (drop next text)) true h)
     go false h = let l : 0 < next = omega (arith, (mark-lies text at c next e).0) in single (eqb-false c 44 h) l (ap before_comma (mark-tokens text at c next e) ∙ before-mark c (tokens_of (drop next text)) false h)
 
@@ -50,34 +55,46 @@ head_is c [] = false
 head_is c (run r ∷ ts) = false
 head_is c (mark d ∷ ts) = eqb d c
 
-pub record PastSome (text : List ℕ) (at c next : ℕ) : Type 0 where
-  pub tokens : operand_tokens text at ≡ mark c ∷ operand_tokens text next
-
-past_by : (text : List ℕ) (at c : ℕ) (f : TokenFound) → Begins text at f → (c ≡ 44 → ⊥) → (mark_by c f ≡ 0 → ⊥) → PastSome text at c (mark_by c f)
-past_by text at c Nothing b k h = absurd (h refl)
-past_by text at c (Run from to) b k h = absurd (h refl)
-past_by text at c (Mark d next) b k h = go (eqb d c) refl h b
+-- none is not some
+pub no-some : {A B : Type 0} {x : A} → ◌≡◌ {A = Option A} None (Some x) → B
+no-some {A = A} h = absurd (false≢true (ap is_there h))
   where
-    go : (t : Bool) → eqb d c ≡ t → (pick t next 0 ≡ 0 → ⊥) → Begins text at (Mark d next) → PastSome text at c (pick t next 0)
-    go true e h (comma z n) = absurd (k (sym (eqb-true d c e) ∙ z))
-    go true e h (single z l n) = record { tokens = n ∙ ap (λ (x : ℕ). mark x ∷ operand_tokens text next) (eqb-true d c e) }
-    go false e h b = absurd (h refl)
+    is_there : Option A → Bool
+    is_there None = false
+    is_there (Some x) = true
 
-pub past-some : (text : List ℕ) (at c : ℕ) → (c ≡ 44 → ⊥) → (past_mark text at c ≡ 0 → ⊥) → PastSome text at c (past_mark text at c)
+pub some-same : {A : Type 0} {x y : A} → Some x ≡ Some y → x ≡ y
+some-same h = cc
+
+past_by : (text : List ℕ) (at c : ℕ) {f : Option Found} → Begins text at f → (c ≡ 44 → ⊥) → (next : ℕ) → mark_by c f ≡ Some next → operand_tokens text at ≡ mark c ∷ operand_tokens text next
+past_by text at c (ended n) k next h = no-some h
+past_by text at c (word n) k next h = no-some h
+past_by text at c (comma {next = m} {c = d} z n) k next h = go (eqb d c) refl h
+  where
+    go : (t : Bool) → eqb d c ≡ t → pick t (Some m) None ≡ Some next → operand_tokens text at ≡ mark c ∷ operand_tokens text next
+    go true e g = absurd (k (sym (eqb-true d c e) ∙ z))
+    go false e g = no-some g
+past_by text at c (single {c = d} {next = m} z l n) k next h = go (eqb d c) refl h
+  where
+    go : (t : Bool) → eqb d c ≡ t → pick t (Some m) None ≡ Some next → operand_tokens text at ≡ mark c ∷ operand_tokens text next
+    go true e g = let q = some-same g in n ∙ rw (eqb-true d c e, q)
+    go false e g = no-some g
+
+pub past-some : (text : List ℕ) (at c : ℕ) → (c ≡ 44 → ⊥) → (next : ℕ) → past_mark text at c ≡ Some next → operand_tokens text at ≡ mark c ∷ operand_tokens text next
 unfolding past_mark
-past-some text at c k h = past_by text at c (token_at text at) (begins text at) k h
+past-some text at c k next h = past_by text at c (begins text at) k next h
 
-past-no : (text : List ℕ) (at c : ℕ) {f : TokenFound} → Begins text at f → mark_by c f ≡ 0 → head_is c (operand_tokens text at) ≡ false
+past-no : (text : List ℕ) (at c : ℕ) {f : Option Found} → Begins text at f → mark_by c f ≡ None → head_is c (operand_tokens text at) ≡ false
 past-no text at c (ended n) h = ap (head_is c) n
 past-no text at c (comma z n) h = ap (head_is c) n
 past-no text at c (word n) h = ap (head_is c) n
 past-no text at c (single {c = d} {next = next} z l n) h = ap (head_is c) n ∙ go (eqb d c) refl h
   where
-    go : (t : Bool) → eqb d c ≡ t → pick t next 0 ≡ 0 → eqb d c ≡ false
-    go true e k = absurd (omega arith)
+    go : (t : Bool) → eqb d c ≡ t → pick t (Some next) None ≡ None → eqb d c ≡ false
+    go true e k = no-some (sym k)
     go false e k = e
 
-pub past-none : (text : List ℕ) (at c : ℕ) → past_mark text at c ≡ 0 → head_is c (operand_tokens text at) ≡ false
+pub past-none : (text : List ℕ) (at c : ℕ) → past_mark text at c ≡ None → head_is c (operand_tokens text at) ≡ false
 unfolding past_mark
 past-none text at c h = past-no text at c (begins text at) h
 
@@ -86,7 +103,7 @@ abbrev pub is_none : List Token → Bool
 is_none [] = true
 is_none (t ∷ ts) = false
 
-stops-is : (text : List ℕ) (at : ℕ) {f : TokenFound} → Begins text at f → is_none (operand_tokens text at) ≡ stops_by f
+stops-is : (text : List ℕ) (at : ℕ) {f : Option Found} → Begins text at f → is_none (operand_tokens text at) ≡ stops_by f
 stops-is text at (ended n) = ap is_none n
 stops-is text at (comma z n) = ap is_none n ∙ sym (eq-eqb _ 44 z)
 stops-is text at (word n) = ap is_none n
@@ -102,29 +119,49 @@ head_number [] = 9
 head_number (run r ∷ ts) = register_number r
 head_number (mark c ∷ ts) = 9
 
-register-number : (text : List ℕ) (at : ℕ) {f : TokenFound} → Begins text at f → head_number (operand_tokens text at) ≡ (register_by text at f).number
-register-number text at (ended n) = ap head_number n
-register-number text at (comma z n) = ap head_number n
-register-number text at (word n) = ap head_number n
-register-number text at (single z l n) = ap head_number n
-
-pub register-told : (text : List ℕ) (at : ℕ) → head_number (operand_tokens text at) ≡ (register_at text at).number
-unfolding register_at
-register-told text at = register-number text at (begins text at)
-
-pub record RunThere (text : List ℕ) (at next : ℕ) : Type 0 where
+-- a register in front, and none
+pub record RunThere (text : List ℕ) (at : ℕ) (n : Named) : Type 0 where
   pub name : List ℕ
-  pub tokens : operand_tokens text at ≡ run name ∷ operand_tokens text next
+  pub tokens : operand_tokens text at ≡ run name ∷ operand_tokens text n.next
+  pub number : register_number name ≡ n.number
+  pub some : n.number < 9
 
-register-there : (text : List ℕ) (at : ℕ) {f : TokenFound} → Begins text at f → ((register_by text at f).number ≡ 9 → ⊥) → RunThere text at (register_by text at f).next
-register-there text at (ended n) h = absurd (h refl)
-register-there text at (comma z n) h = absurd (h refl)
-register-there text at (word {from = from} {to = to} n) h = record { name = capitals (between text from to); tokens = n }
-register-there text at (single z l n) h = absurd (h refl)
+register-there : (text : List ℕ) (at : ℕ) {f : Option Found} → Begins text at f → (n : Named) → register_by text f ≡ Some n → RunThere text at n
+register-there text at (ended e) n h = no-some h
+register-there text at (comma z e) n h = no-some h
+register-there text at (single z l e) n h = no-some h
+register-there text at (word {from = from} {to = to} e) n h = go (ltb number 9) refl h
+  where
+    number : ℕ
+    number = register_number (capitals (between text from to))
 
-pub register-some : (text : List ℕ) (at : ℕ) → ((register_at text at).number ≡ 9 → ⊥) → RunThere text at (register_at text at).next
+    here : Named
+    here = record { number = number; next = to }
+
+    go : (b : Bool) → ltb number 9 ≡ b → named (pick b (Some number) None) to ≡ Some n → RunThere text at n
+    go false l g = no-some g
+    go true l g = let q : here ≡ n = some-same g in subst (RunThere text at) q (record { name = capitals (between text from to); tokens = e; number = refl; some = ltb-true number 9 l })
+
+pub register-some : (text : List ℕ) (at : ℕ) (n : Named) → register_at text at ≡ Some n → RunThere text at n
 unfolding register_at
-register-some text at h = register-there text at (begins text at) h
+register-some text at n h = register-there text at (begins text at) n h
+
+register-not : (text : List ℕ) (at : ℕ) {f : Option Found} → Begins text at f → register_by text f ≡ None → 9 ≤ head_number (operand_tokens text at)
+register-not text at (ended e) h = omega (arith, ap head_number e)
+register-not text at (comma z e) h = omega (arith, ap head_number e)
+register-not text at (single z l e) h = omega (arith, ap head_number e)
+register-not text at (word {from = from} {to = to} e) h = go (ltb number 9) refl h
+  where
+    number : ℕ
+    number = register_number (capitals (between text from to))
+
+    go : (b : Bool) → ltb number 9 ≡ b → named (pick b (Some number) None) to ≡ None → 9 ≤ head_number (operand_tokens text at)
+    go true l g = no-some (sym g)
+    go false l g = omega (arith, ap head_number e, ltb-false number 9 l)
+
+pub register-none : (text : List ℕ) (at : ℕ) → register_at text at ≡ None → 9 ≤ head_number (operand_tokens text at)
+unfolding register_at
+register-none text at h = register-not text at (begins text at) h
 
 -- memory behind its bracket
 module _ (mm : ℕ) where
@@ -197,27 +234,63 @@ module _ (mm : ℕ) where
   with-plus ts = refl
 
 -- forms that are no memory, and memory without an offset
-pub form-none : (text : List ℕ) (w : Written) → w ≡ nothing → Formed text NoOperand w
+pub form-none : (text : List ℕ) (w : Written) → w ≡ nothing → Formed text None w
 unfolding is_shallow
 form-none text w e = record { same = sym e; low = sym (ap is_shallow e) }
 
-pub form-plain : (text : List ℕ) (mm aa place : ℕ) (w : Written) → (aa ≡ 1 → ⊥) → w ≡ memory mm aa [] → Formed text (Memory mm aa place true) w
+pub form-plain : (text : List ℕ) (mm : ℕ) (w : Written) → w ≡ memory mm 0 [] → Formed text (Some (Memory mm Plain)) w
 unfolding is_shallow depth_of scan_from
-form-plain text mm aa place w h e = record { same = rw (ne_eqb aa 1 h) (sym e); low = sym (ap is_shallow e) }
+form-plain text mm w e = record { same = sym e; low = sym (ap is_shallow e) }
 
-pub form-offset : (text : List ℕ) (mm place : ℕ) (low : Bool) (w : Written) → low ≡ leb (depth_of (operand_tokens text place)) 8 → w ≡ memory mm 1 (operand_tokens text place) → Formed text (Memory mm 1 place low) w
+pub form-indexed : (text : List ℕ) (mm : ℕ) (w : Written) → w ≡ memory mm 2 [] → Formed text (Some (Memory mm Indexed)) w
+unfolding is_shallow depth_of scan_from
+form-indexed text mm w e = record { same = sym e; low = sym (ap is_shallow e) }
+
+pub form-stepped : (text : List ℕ) (mm : ℕ) (w : Written) → w ≡ memory mm 3 [] → Formed text (Some (Memory mm Stepped)) w
+unfolding is_shallow depth_of scan_from
+form-stepped text mm w e = record { same = sym e; low = sym (ap is_shallow e) }
+
+-- a sum by its place
+pub record SumThere (text : List ℕ) (place : ℕ) (s : Sum) : Type 0 where
+  pub sum : is_sum (operand_tokens text place) ≡ true
+  pub here : s.place ≡ place
+  pub low : s.low ≡ leb (depth_of (operand_tokens text place)) 8
+
+pub sum-some : (text : List ℕ) (place : ℕ) (s : Sum) → whole_sum text place ≡ Some s → SumThere text place s
+unfolding whole_sum
+sum-some text place s h = go (is_sum (operand_tokens text place)) refl h
+  where
+    it : Sum
+    it = record { place = place; low = leb (depth_of (operand_tokens text place)) 8 }
+
+    go : (b : Bool) → is_sum (operand_tokens text place) ≡ b → pick b (Some it) None ≡ Some s → SumThere text place s
+    go true e g = let q : it ≡ s = some-same g in subst (SumThere text place) q (record { sum = e; here = refl; low = refl })
+    go false e g = no-some g
+
+pub sum-none : (text : List ℕ) (place : ℕ) → whole_sum text place ≡ None → is_sum (operand_tokens text place) ≡ false
+unfolding whole_sum
+sum-none text place h = go (is_sum (operand_tokens text place)) refl h
+  where
+    it : Sum
+    it = record { place = place; low = leb (depth_of (operand_tokens text place)) 8 }
+
+    go : (b : Bool) → is_sum (operand_tokens text place) ≡ b → pick b (Some it) None ≡ None → b ≡ false
+    go true e g = no-some (sym g)
+    go false e g = refl
+
+pub form-offset : (text : List ℕ) (mm place : ℕ) (s : Sum) (w : Written) → SumThere text place s → w ≡ memory mm 1 (operand_tokens text place) → Formed text (Some (Offset mm s)) w
 unfolding is_shallow
-form-offset text mm place low w l e = record { same = sym e; low = l ∙ sym (ap is_shallow e) }
+form-offset text mm place s w t e = record { same = rw t.here (sym e); low = t.low ∙ sym (ap is_shallow e) }
 
-pub form-value : (text : List ℕ) (place : ℕ) (low : Bool) (w : Written) → low ≡ leb (depth_of (operand_tokens text place)) 8 → w ≡ value (operand_tokens text place) → Formed text (Value place low) w
+pub form-value : (text : List ℕ) (place : ℕ) (s : Sum) (w : Written) → SumThere text place s → w ≡ value (operand_tokens text place) → Formed text (Some (Value s)) w
 unfolding is_shallow
-form-value text place low w l e = record { same = sym e; low = l ∙ sym (ap is_shallow e) }
+form-value text place s w t e = record { same = rw t.here (sym e); low = t.low ∙ sym (ap is_shallow e) }
 
-pub form-register : (text : List ℕ) (r : ℕ) (w : Written) → w ≡ register r → Formed text (Register r) w
+pub form-register : (text : List ℕ) (r : ℕ) (w : Written) → w ≡ register r → Formed text (Some (Register r)) w
 unfolding is_shallow
 form-register text r w e = record { same = sym e; low = sym (ap is_shallow e) }
 
-pub formed-as : (text : List ℕ) (f : Form) {v w : Written} → Formed text f v → v ≡ w → Formed text f w
+pub formed-as : (text : List ℕ) (f : Option Form) {v w : Written} → Formed text f v → v ≡ w → Formed text f w
 formed-as text f h e = subst (Formed text f) e h
 
 -- the same, by the code's tests at places of the text
@@ -225,34 +298,33 @@ module _ (text : List ℕ) (at mm : ℕ) where
   pub plain-stops : stops_at text at ≡ true → closed_memory mm (operand_tokens text at) ≡ memory mm 0 []
   plain-stops h = closed_none mm (operand_tokens text at) (stops-told text at ∙ h)
 
-  pub plain_other : stops_at text at ≡ false → past_mark text at 46 ≡ 0 → closed_memory mm (operand_tokens text at) ≡ nothing
+  pub plain_other : stops_at text at ≡ false → past_mark text at 46 ≡ None → closed_memory mm (operand_tokens text at) ≡ nothing
   plain_other h k = closed-other mm (operand_tokens text at) (stops-told text at ∙ h) (past-none text at 46 k)
 
-  pub plain-offset : (past_mark text at 46 ≡ 0 → ⊥) → (b : Bool) → is_sum (operand_tokens text (past_mark text at 46)) ≡ b → closed_memory mm (operand_tokens text at) ≡ pick b (memory mm 1 (operand_tokens text (past_mark text at 46))) nothing
-  plain-offset h b e = ap (closed_memory mm) (past-some text at 46 (λ z. omega arith) h).tokens ∙ closed-offset mm (operand_tokens text (past_mark text at 46)) ∙ rw e
+  pub plain-offset : (next : ℕ) → past_mark text at 46 ≡ Some next → (b : Bool) → is_sum (operand_tokens text next) ≡ b → closed_memory mm (operand_tokens text at) ≡ pick b (memory mm 1 (operand_tokens text next)) nothing
+  plain-offset next h b e = ap (closed_memory mm) (past-some text at 46 (λ z. omega arith) next h) ∙ closed-offset mm (operand_tokens text next) ∙ rw e
 
-  pub indexed-not : ((register_at text at).number ≡ 5 → ⊥) → indexed_memory mm (operand_tokens text at) ≡ nothing
-  indexed-not h = indexed-none mm (operand_tokens text at) (λ e. h (sym (register-told text at) ∙ e))
+  pub indexed-not : register_at text at ≡ None → indexed_memory mm (operand_tokens text at) ≡ nothing
+  indexed-not h = indexed-none mm (operand_tokens text at) (λ e. omega (arith, register-none text at h, e))
 
-  pub indexed-is : (register_at text at).number ≡ 5 → indexed_memory mm (operand_tokens text at) ≡ ended_memory mm (operand_tokens text (register_at text at).next)
-  indexed-is h =
-      let r = register-some text at (λ z. omega (arith, h, z)) in
-      ap (indexed_memory mm) r.tokens ∙ indexed-some mm r.name (operand_tokens text (register_at text at).next) (sym (ap head_number r.tokens) ∙ register-told text at ∙ h)
+  pub indexed_other : (n : Named) → register_at text at ≡ Some n → (n.number ≡ 5 → ⊥) → indexed_memory mm (operand_tokens text at) ≡ nothing
+  indexed_other n h k = let r = register-some text at n h in indexed-none mm (operand_tokens text at) (λ e. k (sym r.number ∙ sym (ap head_number r.tokens) ∙ e))
 
-  pub ended-closed : (past_mark text at 93 ≡ 0 → ⊥) → (b : Bool) → stops_at text (past_mark text at 93) ≡ b → ended_memory mm (operand_tokens text at) ≡ pick b (memory mm 2 []) nothing
-  ended-closed h b e = let n = past_mark text at 93 in ap (ended_memory mm) (past-some text at 93 (λ z. omega arith) h).tokens ∙ ended-one mm (operand_tokens text n) b (stops-told text n ∙ e)
+  pub indexed-is : (n : Named) → register_at text at ≡ Some n → n.number ≡ 5 → indexed_memory mm (operand_tokens text at) ≡ ended_memory mm (operand_tokens text n.next)
+  indexed-is n h k = let r = register-some text at n h in ap (indexed_memory mm) r.tokens ∙ indexed-some mm r.name (operand_tokens text n.next) (r.number ∙ k)
 
-  pub ended-not : past_mark text at 93 ≡ 0 → past_mark text at 43 ≡ 0 → ended_memory mm (operand_tokens text at) ≡ nothing
+  pub ended-closed : (next : ℕ) → past_mark text at 93 ≡ Some next → (b : Bool) → stops_at text next ≡ b → ended_memory mm (operand_tokens text at) ≡ pick b (memory mm 2 []) nothing
+  ended-closed next h b e = ap (ended_memory mm) (past-some text at 93 (λ z. omega arith) next h) ∙ ended-one mm (operand_tokens text next) b (stops-told text next ∙ e)
+
+  pub ended-not : past_mark text at 93 ≡ None → past_mark text at 43 ≡ None → ended_memory mm (operand_tokens text at) ≡ nothing
   ended-not h k = ended-other mm (operand_tokens text at) (past-none text at 93 h) (past-none text at 43 k)
 
-  pub ended-grown-not : (past_mark text at 43 ≡ 0 → ⊥) → past_mark text (past_mark text at 43) 93 ≡ 0 → ended_memory mm (operand_tokens text at) ≡ nothing
-  ended-grown-not h k = let n = past_mark text at 43 in ap (ended_memory mm) (past-some text at 43 (λ z. omega arith) h).tokens ∙ ended-open mm (operand_tokens text n) (past-none text n 93 k)
+  pub ended-grown-not : (n : ℕ) → past_mark text at 43 ≡ Some n → past_mark text n 93 ≡ None → ended_memory mm (operand_tokens text at) ≡ nothing
+  ended-grown-not n h k = ap (ended_memory mm) (past-some text at 43 (λ z. omega arith) n h) ∙ ended-open mm (operand_tokens text n) (past-none text n 93 k)
 
-  pub ended-grown : (past_mark text at 43 ≡ 0 → ⊥) → (past_mark text (past_mark text at 43) 93 ≡ 0 → ⊥) → (b : Bool) → stops_at text (past_mark text (past_mark text at 43) 93) ≡ b → ended_memory mm (operand_tokens text at) ≡ pick b (memory mm 3 []) nothing
-  ended-grown h k b e =
-      let n = past_mark text at 43 in
-      let m = past_mark text n 93 in
-      ap (ended_memory mm) ((past-some text at 43 (λ z. omega arith) h).tokens ∙ ap (λ (ts : List Token). mark 43 ∷ ts) (past-some text n 93 (λ z. omega arith) k).tokens) ∙ ended-two mm (operand_tokens text m) b (stops-told text m ∙ e)
+  pub ended-grown : (n m : ℕ) → past_mark text at 43 ≡ Some n → past_mark text n 93 ≡ Some m → (b : Bool) → stops_at text m ≡ b → ended_memory mm (operand_tokens text at) ≡ pick b (memory mm 3 []) nothing
+  ended-grown n m h k b e =
+      ap (ended_memory mm) (past-some text at 43 (λ z. omega arith) n h ∙ ap (λ (ts : List Token). mark 43 ∷ ts) (past-some text n 93 (λ z. omega arith) m k)) ∙ ended-two mm (operand_tokens text m) b (stops-told text m ∙ e)
 
 -- memory behind its opening bracket
 from-not : (ts : List Token) → 3 < base_number (head_number ts) → memory_from ts ≡ nothing
@@ -265,33 +337,50 @@ from_is : (r : List ℕ) (ts : List Token) (n : ℕ) → register_number r ≡ n
 unfolding memory_from
 from_is r ts n e h = let l : base_number n < 4 = omega arith in rw (e, lt-ltb (base_number n) 4 l)
 
-no-base : (n : ℕ) → n ≡ 9 → base_number n ≤ 3 → ⊥
-no-base n e h = let z : base_number 9 ≤ 3 = subst (λ (k : ℕ). base_number k ≤ 3) e h in omega arith
+base-none : (n : ℕ) → base_at n ≡ None → base_number n ≡ 4
+unfolding base_at
+base-none n h = go (ltb n 3) (eqb n 8) h
+  where
+    go : (a b : Bool) → pick a (Some n) (pick b (Some 3) None) ≡ None → pick a n (pick b 3 4) ≡ 4
+    go true b g = no-some (sym g)
+    go false true g = no-some (sym g)
+    go false false g = refl
+
+base-some : (n mm : ℕ) → base_at n ≡ Some mm → (base_number n ≡ mm) × (mm ≤ 3)
+unfolding base_at
+base-some n mm h = go (ltb n 3) refl (eqb n 8) h
+  where
+    go : (a : Bool) → ltb n 3 ≡ a → (b : Bool) → pick a (Some n) (pick b (Some 3) None) ≡ Some mm → (pick a n (pick b 3 4) ≡ mm) × (mm ≤ 3)
+    go true l b g = let q = some-same g in let z = ltb-true n 3 l in (q, omega arith)
+    go false l true g = let q = some-same g in (q, omega arith)
+    go false l false g = no-some g
 
 module _ (text : List ℕ) (at : ℕ) where
-  pub memory-not : 3 < base_number (register_at text at).number → memory_from (operand_tokens text at) ≡ nothing
-  memory-not h = from-not (operand_tokens text at) (subst (λ (n : ℕ). 3 < base_number n) (sym (register-told text at)) h)
+  pub memory-unnamed : register_at text at ≡ None → memory_from (operand_tokens text at) ≡ nothing
+  memory-unnamed h = let l = register-none text at h in let g = over (head_number (operand_tokens text at)) l in from-not (operand_tokens text at) (omega arith)
+    where
+      over : (n : ℕ) → 9 ≤ n → base_number n ≡ 4
+      over n l = rw (le-ltb n 3 (omega arith), ne_eqb n 8 (λ z. omega arith))
 
-  memory-is : base_number (register_at text at).number ≤ 3 → memory_from (operand_tokens text at) ≡ memory_behind (base_number (register_at text at).number) (operand_tokens text (register_at text at).next)
-  memory-is h =
-      let r = register-some text at (λ z. no-base (register_at text at).number z h) in
-      ap memory_from r.tokens ∙ from_is r.name (operand_tokens text (register_at text at).next) (register_at text at).number (sym (ap head_number r.tokens) ∙ register-told text at) h
+  module _ (n : Named) (h : register_at text at ≡ Some n) where
+    pub memory-not : base_at n.number ≡ None → memory_from (operand_tokens text at) ≡ nothing
+    memory-not k = let r = register-some text at n h in let b = ap base_number (ap head_number r.tokens ∙ r.number) ∙ base-none n.number k in from-not (operand_tokens text at) (omega arith)
 
-  pub memory-closed : (mm next : ℕ) → mm ≡ base_number (register_at text at).number → next ≡ (register_at text at).next → mm ≤ 3 → (past_mark text next 93 ≡ 0 → ⊥) → memory_from (operand_tokens text at) ≡ closed_memory mm (operand_tokens text (past_mark text next 93))
-  memory-closed mm next e f h k =
-      memory-is (subst (λ (n : ℕ). n ≤ 3) e h)
-      ∙ rw (← e, ← f)
-      (ap (memory_behind mm) (past-some text next 93 (λ z. omega arith) k).tokens ∙ with-closed mm (operand_tokens text (past_mark text next 93)))
+    module _ (mm : ℕ) (b : base_at n.number ≡ Some mm) where
+      memory-is : memory_from (operand_tokens text at) ≡ memory_behind mm (operand_tokens text n.next)
+      memory-is =
+          let r = register-some text at n h in
+          let m = base-some n.number mm b in
+          ap memory_from r.tokens ∙ from_is r.name (operand_tokens text n.next) n.number r.number (omega (arith, m.0, m.1)) ∙ ap (λ (x : ℕ). memory_behind x (operand_tokens text n.next)) m.0
 
-  pub memory-plus : (mm next : ℕ) → mm ≡ base_number (register_at text at).number → next ≡ (register_at text at).next → mm ≤ 3 → (past_mark text next 43 ≡ 0 → ⊥) → memory_from (operand_tokens text at) ≡ indexed_memory mm (operand_tokens text (past_mark text next 43))
-  memory-plus mm next e f h k =
-      memory-is (subst (λ (n : ℕ). n ≤ 3) e h)
-      ∙ rw (← e, ← f)
-      (ap (memory_behind mm) (past-some text next 43 (λ z. omega arith) k).tokens ∙ with-plus mm (operand_tokens text (past_mark text next 43)))
+      pub memory-closed : (next : ℕ) → past_mark text n.next 93 ≡ Some next → memory_from (operand_tokens text at) ≡ closed_memory mm (operand_tokens text next)
+      memory-closed next k = memory-is ∙ ap (memory_behind mm) (past-some text n.next 93 (λ z. omega arith) next k) ∙ with-closed mm (operand_tokens text next)
 
-  pub memory-other : (mm next : ℕ) → mm ≡ base_number (register_at text at).number → next ≡ (register_at text at).next → mm ≤ 3 → past_mark text next 93 ≡ 0 → past_mark text next 43 ≡ 0 → memory_from (operand_tokens text at) ≡ nothing
-  memory-other mm next e f h k l =
-      memory-is (subst (λ (n : ℕ). n ≤ 3) e h) ∙ rw (← e, ← f) (with-other mm (operand_tokens text next) (past-none text next 93 k) (past-none text next 43 l))
+      pub memory-plus : (next : ℕ) → past_mark text n.next 43 ≡ Some next → memory_from (operand_tokens text at) ≡ indexed_memory mm (operand_tokens text next)
+      memory-plus next k = memory-is ∙ ap (memory_behind mm) (past-some text n.next 43 (λ z. omega arith) next k) ∙ with-plus mm (operand_tokens text next)
+
+      pub memory-other : past_mark text n.next 93 ≡ None → past_mark text n.next 43 ≡ None → memory_from (operand_tokens text at) ≡ nothing
+      memory-other k l = memory-is ∙ with-other mm (operand_tokens text n.next) (past-none text n.next 93 k) (past-none text n.next 43 l)
 
 -- an operand by its first token
 operand-bracket : (ts : List Token) → operand_from (mark 91 ∷ ts) ≡ memory_from ts
@@ -333,29 +422,23 @@ operand-sum (run r ∷ t ∷ ts) h k = refl
 operand-sum (mark c ∷ ts) h k = rw h
 
 module _ (text : List ℕ) (at : ℕ) where
-  pub operand-memory : (past_mark text at 91 ≡ 0 → ⊥) → operand_from (operand_tokens text at) ≡ memory_from (operand_tokens text (past_mark text at 91))
-  operand-memory h = ap operand_from (past-some text at 91 (λ z. omega arith) h).tokens ∙ operand-bracket (operand_tokens text (past_mark text at 91))
+  pub operand-memory : (next : ℕ) → past_mark text at 91 ≡ Some next → operand_from (operand_tokens text at) ≡ memory_from (operand_tokens text next)
+  operand-memory next h = ap operand_from (past-some text at 91 (λ z. omega arith) next h) ∙ operand-bracket (operand_tokens text next)
 
-  name-there : (register_at text at).number < 9 → (r : List ℕ) × ((operand_tokens text at ≡ run r ∷ operand_tokens text (register_at text at).next) × (register_number r ≡ (register_at text at).number))
-  name-there h =
-      let r = register-some text at (λ z. omega arith) in
-      (r.name, (r.tokens, sym (ap head_number r.tokens) ∙ register-told text at))
+  module _ (n : Named) (h : register_at text at ≡ Some n) where
+    pub operand-register : ltb n.number 8 && stops_at text n.next ≡ true → operand_from (operand_tokens text at) ≡ register n.number
+    operand-register k =
+        let r = register-some text at n h in
+        let none = no_more (operand_tokens text n.next) (stops-told text n.next ∙ both_right (ltb n.number 8) (stops_at text n.next) k) in
+        ap operand_from (r.tokens ∙ ap (λ (ts : List Token). run r.name ∷ ts) none) ∙ operand-alone r.name n.number r.number (ltb-true n.number 8 (both_left (ltb n.number 8) (stops_at text n.next) k))
 
-  pub operand-register : (register_at text at).number < 9 → ltb (register_at text at).number 8 && stops_at text (register_at text at).next ≡ true → operand_from (operand_tokens text at) ≡ register (register_at text at).number
-  operand-register h k =
-      let n = register_at text at in
-      let r = name-there h in
-      let none = no_more (operand_tokens text n.next) (stops-told text n.next ∙ both_right (ltb n.number 8) (stops_at text n.next) k) in
-      ap operand_from (r.1.0 ∙ ap (λ (ts : List Token). run r.0 ∷ ts) none) ∙ operand-alone r.0 n.number r.1.1 (ltb-true n.number 8 (both_left (ltb n.number 8) (stops_at text n.next) k))
+    pub operand-not : ltb n.number 8 && stops_at text n.next ≡ false → operand_from (operand_tokens text at) ≡ nothing
+    operand-not k =
+        let r = register-some text at n h in
+        ap operand_from r.tokens ∙ operand-name r.name (operand_tokens text n.next) n.number r.number r.some (ap (λ (b : Bool). ltb n.number 8 && b) (stops-told text n.next) ∙ k)
 
-  pub operand-not : (register_at text at).number < 9 → ltb (register_at text at).number 8 && stops_at text (register_at text at).next ≡ false → operand_from (operand_tokens text at) ≡ nothing
-  operand-not h k =
-      let n = register_at text at in
-      let r = name-there h in
-      ap operand_from r.1.0 ∙ operand-name r.0 (operand_tokens text n.next) n.number r.1.1 h (ap (λ (b : Bool). ltb n.number 8 && b) (stops-told text n.next) ∙ k)
-
-  pub operand-value : past_mark text at 91 ≡ 0 → 9 ≤ (register_at text at).number → (b : Bool) → is_sum (operand_tokens text at) ≡ b → operand_from (operand_tokens text at) ≡ pick b (value (operand_tokens text at)) nothing
-  operand-value h k b e = operand-sum (operand_tokens text at) (past-none text at 91 h) (subst (λ (n : ℕ). 9 ≤ n) (sym (register-told text at)) k) ∙ rw e
+  pub operand-value : past_mark text at 91 ≡ None → register_at text at ≡ None → (b : Bool) → is_sum (operand_tokens text at) ≡ b → operand_from (operand_tokens text at) ≡ pick b (value (operand_tokens text at)) nothing
+  operand-value h k b e = operand-sum (operand_tokens text at) (past-none text at 91 h) (register-none text at k) ∙ rw e
 
 -- a whole sum by its scan
 pub sum_told : (ts : List Token) (s : Scan) → s ≡ scan_from scan_start ts → is_whole s ≡ is_sum ts
@@ -365,3 +448,23 @@ sum_told ts s e = ap is_whole e
 pub depth-told : (ts : List Token) (s : Scan) → s ≡ scan_from scan_start ts → leb s.most 8 ≡ leb (depth_of ts) 8
 unfolding depth_of
 depth-told ts s e = ap (λ (x : Scan). leb x.most 8) e
+
+pub whole-told : (text : List ℕ) (place : ℕ) (s : Scan) (b : Bool) → s ≡ scan_from scan_start (operand_tokens text place) → b ≡ is_whole s → then_some {T = Sum} b (record { place = place; low = leb s.most 8 }) ≡ whole_sum text place
+unfolding whole_sum
+whole-told text place s b e f = rw (f ∙ sum_told (operand_tokens text place) s e, depth-told (operand_tokens text place) s e) (go (is_sum (operand_tokens text place)))
+  where
+    it : Sum
+    it = record { place = place; low = leb (depth_of (operand_tokens text place)) 8 }
+
+    go : (b : Bool) → then_some b it ≡ pick b (Some it) None
+    go true = refl
+    go false = refl
+
+-- an operand where a test holds, and none where it does not
+pub form-if : (text : List ℕ) (f : Form) (w : Written) (b : Bool) → (b ≡ true → Formed text (Some f) w) → (b ≡ false → Formed text None w) → Formed text (then_some b f) w
+form-if text f w true h k = h refl
+form-if text f w false h k = k refl
+
+-- a register that stands alone, and one that does not
+pub form-alone : (text : List ℕ) (at : ℕ) (n : Named) → register_at text at ≡ Some n → (b : Bool) → b ≡ ltb n.number 8 && stops_at text n.next → Formed text (then_some b (Register n.number)) (operand_from (operand_tokens text at))
+form-alone text at n h b e = form-if text (Register n.number) (operand_from (operand_tokens text at)) b (λ k. form-register text n.number _ (operand-register text at n h (sym e ∙ k))) (λ k. form-none text _ (operand-not text at n h (sym e ∙ k)))

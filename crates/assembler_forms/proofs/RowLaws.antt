@@ -1,9 +1,10 @@
 -- Operands in a row: what stands between commas, by their places.
 -- Assumes nothing.
+use Rattle.std.specs.Prelude.{Option, Some, None}
 use mathlib.Core.Path.{◌≡◌, refl, sym, ap, ◌∙◌}
 use mathlib.Core.Bool.{Bool, true, false, ◌||◌, false≢true}
 use mathlib.Core.List.{List, [], ◌∷◌}
-use Prim.Native.Nat.{ℕ, ◌+◌, ◌≤◌, ◌<◌}
+use Prim.Native.Nat.{ℕ, ◌+◌, ◌-◌, ◌≤◌, ◌<◌}
 use native.Mathlib.Omega.{arith}
 use lib.Dec.{eqb, ltb}
 use lib.ListN.{length, get_or, drop, drop_of_length-le, length-drop}
@@ -16,12 +17,16 @@ use Rattle.assembly_rules.specs.Operands.{Written, operand_from, operands_from}
 use Rattle.assembly_rules.specs.Statements.{operand_parts}
 use Rattle.assembly_rules.proofs.TextLaws.{tokens-blank, tokens-end, tokens-mark, rest_more}
 use Rattle.assembly_rules.proofs.WritingLaws.{both_left, both_right}
-use Rattle.assembler_text.specs.declared.tokens.TokenFound.{TokenFound}
-use Rattle.assembler_text.specs.declared.tokens.TokenFound.TheVariants.{Nothing, Run, Mark}
+use Rattle.assembler_text.specs.declared.tokens.TokenFound.{TokenFound as Found}
+use Rattle.assembler_text.specs.declared.tokens.TokenFound.TheVariants.{Run, Mark}
 use Rattle.assembler_text.specs.Places.{leading, goes_on, stop_at, token_at}
 use Rattle.assembler_text.proofs.PlaceLaws.{from-here, lead-fails, no-tokens-there, run-tokens, mark-tokens}
-use Rattle.assembler_forms.specs.Forms.{operand_tokens}
-use Rattle.assembler_forms.specs.Rows.{comma_at, ends_by, ends_at}
+use Rattle.assembler_forms.specs.declared.operands.Form.{Form}
+use Rattle.assembler_forms.specs.Forms.{operand_tokens, Formed}
+use Rattle.assembler_forms.proofs.FormLaws.{no-some, some-same}
+use Rattle.assembler_forms.proofs.EntryLaws.{untaken-none, untaken-next, untaken-more}
+use Rattle.assembler_forms.specs.Rows.{comma_at, ends_by, ends_at, next_part, left_behind, FormsAre, Untaken}
+use Rattle.assembler_forms.specs.Rows.FormsAre.{one, two, three}
 
 -- tokens from a comma on: a run in front of them does not matter
 from-run : (front : List ℕ) (rest : List Token) → from_comma (run_before front rest) ≡ from_comma rest
@@ -218,27 +223,82 @@ part-ahead text at p t ts e h k = go (ltb at p) refl
 abbrev pub row_from : List ℕ → ℕ → List Written
 row_from text at = operands_from (parts_from text at)
 
-pub row_ends : (text : List ℕ) (at p : ℕ) → p ≡ stop_at text at → comma_at text p ≡ false → row_from text at ≡ operand_from (operand_tokens text at) ∷ []
-unfolding operands_from
-row_ends text at p e h = ap operands_from (parts-end text at p e h)
+pub comma-inside : (text : List ℕ) (at : ℕ) → comma_at text at ≡ true → at < length text
+unfolding comma_at
+comma-inside text at h = ltb-true at (length text) (both_left (ltb at (length text)) (eqb (get_or text at 0) 44) h)
 
-pub row_goes : (text : List ℕ) (at p : ℕ) → p ≡ stop_at text at → comma_at text p ≡ true → row_from text at ≡ operand_from (operand_tokens text at) ∷ row_from text (p + 1)
+-- the place of the next one, by its comma
+pub part-none : (text : List ℕ) (at : ℕ) → next_part text at ≡ None → comma_at text (stop_at text at) ≡ false
+unfolding next_part
+part-none text at h = go (comma_at text (stop_at text at)) h
+  where
+    go : (b : Bool) → pick b (Some (stop_at text at + 1)) None ≡ None → b ≡ false
+    go true g = no-some (sym g)
+    go false g = refl
+
+pub record PartAt (text : List ℕ) (at next : ℕ) : Type 0 where
+  pub comma : comma_at text (stop_at text at) ≡ true
+  pub here : next ≡ stop_at text at + 1
+
+pub part-some : (text : List ℕ) (at next : ℕ) → next_part text at ≡ Some next → PartAt text at next
+unfolding next_part
+part-some text at next h = go (comma_at text (stop_at text at)) refl h
+  where
+    go : (b : Bool) → comma_at text (stop_at text at) ≡ b → pick b (Some (stop_at text at + 1)) None ≡ Some next → PartAt text at next
+    go true e g = record { comma = e; here = sym (some-same g) }
+    go false e g = no-some g
+
+pub part-behind : (text : List ℕ) (at : ℕ) (next : Option ℕ) → next ≡ next_part text at → left_behind text next < 1 + (length text - at)
+unfolding stop_at
+part-behind text at None e = omega arith
+part-behind text at (Some next) e = let p = part-some text at next (sym e) in omega (arith, p.here, comma-inside text _ p.comma)
+
+pub row_ends : (text : List ℕ) (at : ℕ) → next_part text at ≡ None → row_from text at ≡ operand_from (operand_tokens text at) ∷ []
 unfolding operands_from
-row_goes text at p e h = ap operands_from (parts_more text at p e h)
+row_ends text at h = ap operands_from (parts-end text at _ refl (part-none text at h))
+
+pub row_goes : (text : List ℕ) (at next : ℕ) → next_part text at ≡ Some next → row_from text at ≡ operand_from (operand_tokens text at) ∷ row_from text next
+unfolding operands_from
+row_goes text at next h = let p = part-some text at next h in ap operands_from (parts_more text at _ refl p.comma) ∙ rw p.here
 
 -- there is always one
-pub row_first : (text : List ℕ) (at : ℕ) → (w : Written) × ((ws : List Written) × (row_from text at ≡ w ∷ ws))
-row_first text at = go (comma_at text (stop_at text at)) refl
+pub row_first : (text : List ℕ) (at : ℕ) → (ws : List Written) × (row_from text at ≡ operand_from (operand_tokens text at) ∷ ws)
+row_first text at = go (next_part text at) refl
   where
-    go : (b : Bool) → comma_at text (stop_at text at) ≡ b → (w : Written) × ((ws : List Written) × (row_from text at ≡ w ∷ ws))
-    go true e = (operand_from (operand_tokens text at), (row_from text (stop_at text at + 1), row_goes text at _ refl e))
-    go false e = (operand_from (operand_tokens text at), ([], row_ends text at _ refl e))
+    go : (n : Option ℕ) → next_part text at ≡ n → (ws : List Written) × (row_from text at ≡ operand_from (operand_tokens text at) ∷ ws)
+    go (Some next) e = (row_from text next, row_goes text at next e)
+    go None e = ([], row_ends text at e)
+
+-- the row from a place on, as the code has it
+pub row-none : (text : List ℕ) (at : ℕ) → Formed text None (operand_from (operand_tokens text at)) → Untaken (row_from text at)
+row-none text at h = let r = row_first text at in rw (r.1, sym h.same) (untaken-none r.0)
+
+pub row-untaken : (text : List ℕ) (at next : ℕ) → next_part text at ≡ Some next → Untaken (row_from text next) → Untaken (row_from text at)
+row-untaken text at next e h = rw (row_goes text at next e) (untaken-next (operand_from (operand_tokens text at)) (row_from text next) h)
+
+module _ (text : List ℕ) (at : ℕ) (f : Form) (a : Formed text (Some f) (operand_from (operand_tokens text at))) where
+  pub row_one : next_part text at ≡ None → FormsAre text (Some f ∷ None ∷ None ∷ []) (row_from text at)
+  row_one e = rw (row_ends text at e) (one a)
+
+  module _ (p : ℕ) (e : next_part text at ≡ Some p) (g : Form) (b : Formed text (Some g) (operand_from (operand_tokens text p))) where
+    pub row_two : next_part text p ≡ None → FormsAre text (Some f ∷ Some g ∷ None ∷ []) (row_from text at)
+    row_two i = rw (row_goes text at p e, row_ends text p i) (two a b)
+
+    module _ (q : ℕ) (i : next_part text p ≡ Some q) where
+      pub row_three : (h : Form) → Formed text (Some h) (operand_from (operand_tokens text q)) → next_part text q ≡ None → FormsAre text (Some f ∷ Some g ∷ Some h ∷ []) (row_from text at)
+      row_three h c j = rw (row_goes text at p e, row_goes text p q i, row_ends text q j) (three a b c)
+
+      pub row-over : (r : ℕ) → next_part text q ≡ Some r → Untaken (row_from text at)
+      row-over r j =
+          let more = row_first text r in
+          rw (row_goes text at p e, row_goes text p q i, row_goes text q r j, more.1)
+          (untaken-more (operand_from (operand_tokens text at)) (operand_from (operand_tokens text p)) (operand_from (operand_tokens text q)) (operand_from (operand_tokens text r)) more.0)
 
 -- no operands where the line ends
-pub ends-tokens : (text : List ℕ) (at : ℕ) (f : TokenFound) → token_at text at ≡ f → ends_by f ≡ true → tokens_of (drop at text) ≡ []
-ends-tokens text at Nothing e h = no-tokens-there text at e
-ends-tokens text at (Run from to) e h = absurd (false≢true h)
-ends-tokens text at (Mark c next) e h = absurd (false≢true h)
+pub ends-tokens : (text : List ℕ) (at : ℕ) (f : Option Found) → token_at text at ≡ f → ends_by f ≡ true → tokens_of (drop at text) ≡ []
+ends-tokens text at None e h = no-tokens-there text at e
+ends-tokens text at (Some (Run from to)) e h = absurd (false≢true h)
+ends-tokens text at (Some (Mark c next)) e h = absurd (false≢true h)
 
 nothing-there : operands_from (operand_parts []) ≡ []
 unfolding operands_from
@@ -248,18 +308,14 @@ pub row-empty : (text : List ℕ) (at : ℕ) → ends_at text at ≡ true → op
 unfolding ends_at
 row-empty text at h = ap (λ (ts : List Token). operands_from (operand_parts ts)) (ends-tokens text at (token_at text at) refl h) ∙ nothing-there
 
-pub some-row : (text : List ℕ) (at : ℕ) (f : TokenFound) → token_at text at ≡ f → ends_by f ≡ false → operand_parts (tokens_of (drop at text)) ≡ cut_at is_comma (tokens_of (drop at text))
-some-row text at Nothing e h = absurd (false≢true (sym h))
-some-row text at (Run from to) e h = rw (run-tokens text at from to e)
-some-row text at (Mark c next) e h = rw (mark-tokens text at c next e)
+pub some-row : (text : List ℕ) (at : ℕ) (f : Option Found) → token_at text at ≡ f → ends_by f ≡ false → operand_parts (tokens_of (drop at text)) ≡ cut_at is_comma (tokens_of (drop at text))
+some-row text at None e h = absurd (false≢true (sym h))
+some-row text at (Some (Run from to)) e h = rw (run-tokens text at from to e)
+some-row text at (Some (Mark c next)) e h = rw (mark-tokens text at c next e)
 
 pub row-some : (text : List ℕ) (at : ℕ) → ends_at text at ≡ false → operands_from (operand_parts (tokens_of (drop at text))) ≡ row_from text at
 unfolding ends_at
 row-some text at h = ap operands_from (some-row text at (token_at text at) refl h)
-
-pub comma-inside : (text : List ℕ) (at : ℕ) → comma_at text at ≡ true → at < length text
-unfolding comma_at
-comma-inside text at h = ltb-true at (length text) (both_left (ltb at (length text)) (eqb (get_or text at 0) 44) h)
 
 pub comma-here : (text : List ℕ) (at : ℕ) → at < length text → eqb (get_or text at 0) 44 ≡ comma_at text at
 unfolding comma_at

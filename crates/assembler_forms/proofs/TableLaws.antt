@@ -2,16 +2,17 @@
 -- Assumes nothing.
 use mathlib.Core.Path.{◌≡◌, refl, sym, ap, ◌∙◌}
 use mathlib.Core.Bool.{Bool, true, false, ◌&&◌}
-use mathlib.Core.List.{List, [], ◌∷◌}
+use mathlib.Core.List.{List, [], ◌∷◌, ◌++◌, append_assoc, append-nil}
+use Rattle.std.specs.List.{push}
 use Prim.Native.Nat.{ℕ, suc, ◌+◌, ◌*◌, ◌-◌, ◌%◌, ◌≤◌, ◌<◌}
 use native.Mathlib.Nat.{mod-eq_of_lt, mod-lt}
 use native.Mathlib.Omega.{arith}
 use lib.Dec.{ltb, leb, lit<}
-use lib.ListN.{length, get_or, drop, length-drop, drop_of_length-le}
+use lib.ListN.{length, get_or, length-append}
 use borrow.Author.Tests.{lt-ltb, le-ltb}
 use Rattle.ground_rules.specs.Choice.{pick}
 use Rattle.assembly_rules.specs.Text.{capital_of, capitals}
-use Rattle.assembler_text.proofs.NameLaws.{capitals-here, capitals-length}
+use Rattle.assembler_text.proofs.NameLaws.{capitals-length}
 use Rattle.assembler_forms.specs.Table.{packed_word, word_number, in_bytes, NumberIs}
 
 small : (c : ℕ) → c % 256 < 256
@@ -28,26 +29,38 @@ packed-small (a ∷ b ∷ c ∷ d ∷ []) h = omega (arith, small a, small b, sm
 packed-small (a ∷ b ∷ c ∷ d ∷ e ∷ []) h = omega (arith, small a, small b, small c, small d, small e)
 packed-small (a ∷ b ∷ c ∷ d ∷ e ∷ f ∷ cs) h = absurd (omega arith)
 
--- the characters from a place on are few
-pub left-small : (run : List ℕ) (i : ℕ) → 0 < i → length run ≤ 6 → packed_word (capitals (drop i run)) < 2199023255552
-left-small run i h k = packed-small (capitals (drop i run)) (omega (arith, capitals-length (drop i run), length-drop i run))
-
 packed-cons : (c : ℕ) (cs : List ℕ) → packed_word (c ∷ cs) ≡ c % 256 + 256 * packed_word cs
 unfolding packed_word
 packed-cons c cs = refl
 
--- one more character in front
-pub packed-next : (run : List ℕ) (i x n : ℕ) → 0 < i → i ≤ length run → x ≡ capital_of (get_or run (i - 1) 0) → x < 256 → n ≡ packed_word (capitals (drop i run)) → n * 256 + x ≡ packed_word (capitals (drop (i - 1) run))
-packed-next run i x n h k e l f =
-    let j : i - 1 + 1 ≡ i = omega arith in
-    let here = capitals-here run (i - 1) (omega arith) ∙ ap (λ (m : ℕ). capital_of (get_or run (i - 1) 0) ∷ capitals (drop m run)) j in
-    let all = ap packed_word here ∙ packed-cons (capital_of (get_or run (i - 1) 0)) (capitals (drop i run)) in
-    let y : capital_of (get_or run (i - 1) 0) % 256 ≡ x = ap (λ (m : ℕ). m % 256) (sym e) ∙ mod-eq_of_lt l in
-    omega (arith, all, y, f)
+-- a run of which so much is not yet read, from its end on, and the number of the rest
+pub record Read (run left : List ℕ) (n : ℕ) : Type 0 where
+  pub tail : List ℕ
+  pub split : left ++ tail ≡ run
+  pub number : n ≡ packed_word (capitals tail)
 
-pub packed-end : (run : List ℕ) → 1 ≡ packed_word (capitals (drop (length run) run))
+pub read-none : (run : List ℕ) → Read run run 1
 unfolding packed_word capitals
-packed-end run = let l : length run ≤ length run = omega arith in sym (ap (λ (x : List ℕ). packed_word (capitals x)) (drop_of_length-le run l))
+read-none run = record { tail = []; split = append-nil run; number = refl }
+
+-- one more character in front
+pub read-next : (run old left : List ℕ) (c x n : ℕ) → old ≡ push left c → x ≡ capital_of c → x < 256 → Read run old n → Read run left (n * 256 + x)
+unfolding capitals
+read-next run old left c x n o e l r =
+    let y : capital_of c % 256 ≡ x = ap (λ (m : ℕ). m % 256) (sym e) ∙ mod-eq_of_lt l in
+    record {
+      tail = c ∷ r.tail;
+      split = sym (append_assoc left (c ∷ []) r.tail) ∙ ap (λ (l : List ℕ). l ++ r.tail) (sym o) ∙ r.split;
+      number = omega (arith, packed-cons (capital_of c) (capitals r.tail), y, r.number);
+    }
+
+-- up to five characters read
+pub read-small : (run left : List ℕ) (n : ℕ) → Read run left n → 0 < length left → length run ≤ 6 → n < 2199023255552
+read-small run left n r l k = omega (arith, r.number, packed-small (capitals r.tail) (omega (arith, capitals-length r.tail, ap length r.split, length-append left r.tail)))
+
+pub read-all : (run left : List ℕ) (n : ℕ) → Read run left n → length left ≡ 0 → n ≡ packed_word (capitals run)
+read-all run [] n r l = r.number ∙ ap (λ (x : List ℕ). packed_word (capitals x)) r.split
+read-all run (c ∷ left) n r l = absurd (omega arith)
 
 -- a run of bytes is told by its number
 small-capital : (c : ℕ) → c < 256 → ltb (capital_of c) 256 ≡ true

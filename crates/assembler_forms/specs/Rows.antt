@@ -1,9 +1,12 @@
 -- Operands in a row, as the code has them.
-use Rattle.std.specs.Prelude.{◌≡◌, Bool, true, false, ◌&&◌, List, [], ◌∷◌, ℕ, eqb, ltb, length, get_or}
-use Rattle.assembly_rules.specs.Operands.{Written}
-use Rattle.assembler_text.specs.declared.tokens.TokenFound.{TokenFound}
-use Rattle.assembler_text.specs.declared.tokens.TokenFound.TheVariants.{Nothing, Run, Mark}
-use Rattle.assembler_text.specs.Places.{token_at}
+use Rattle.std.specs.Prelude.{◌≡◌, Bool, true, false, ◌&&◌, List, [], ◌∷◌, ℕ, ◌+◌, ◌-◌, ◌≤◌, Option, Some, None, eqb, ltb, length, get_or}
+use Rattle.ground_rules.specs.Choice.{pick}
+use Rattle.listing_rules.specs.Entries.{OperandKind}
+use Rattle.assembly_rules.specs.Operands.{Written, takes_all}
+use Rattle.assembler_text.specs.declared.tokens.TokenFound.{TokenFound as Found}
+use Rattle.assembler_text.specs.declared.tokens.TokenFound.TheVariants.{Run, Mark}
+use Rattle.assembler_text.specs.Places.{stop_at, token_at}
+use Rattle.assembler_forms.specs.declared.operands.Form.{Form}
 use Rattle.assembler_forms.specs.declared.operands.Operands.{Operands}
 use Rattle.assembler_forms.specs.Forms.{Formed}
 
@@ -11,18 +14,35 @@ use Rattle.assembler_forms.specs.Forms.{Formed}
 unfoldable pub comma_at : List ℕ → ℕ → Bool
 comma_at text at = ltb at (length text) && eqb (get_or text at 0) 44
 
-abbrev pub ends_by : TokenFound → Bool
-ends_by Nothing = true
-ends_by (Run from to) = false
-ends_by (Mark c next) = false
+abbrev pub ends_by : Option Found → Bool
+ends_by None = true
+ends_by (Some (Run from to)) = false
+ends_by (Some (Mark c next)) = false
 
 unfoldable pub ends_at : List ℕ → ℕ → Bool
 ends_at text at = ends_by (token_at text at)
 
--- operands by how many there are
-abbrev pub OperandRow : List ℕ → Operands → List Written → Type 0
-OperandRow text o [] = o.count ≡ 0
-OperandRow text o (u ∷ []) = (o.count ≡ 1) × Formed text o.first u
-OperandRow text o (u ∷ v ∷ []) = (o.count ≡ 2) × (Formed text o.first u × Formed text o.second v)
-OperandRow text o (u ∷ v ∷ w ∷ []) = (o.count ≡ 3) × (Formed text o.first u × (Formed text o.second v × Formed text o.third w))
-OperandRow text o (u ∷ v ∷ w ∷ x ∷ ws) = o.count ≡ 4
+-- the place behind the next comma of the line
+unfoldable pub next_part : List ℕ → ℕ → Option ℕ
+next_part text at = pick (comma_at text (stop_at text at)) (Some (stop_at text at + 1)) None
+
+-- how far the text goes behind such a place
+abbrev pub left_behind : List ℕ → Option ℕ → ℕ
+left_behind text (Some i) = 1 + (length text - i)
+left_behind text None = 0
+
+-- up to three operands, none behind them
+pub data FormsAre (text : List ℕ) : List (Option Form) → List Written → Type 0 where
+  none : FormsAre text (None ∷ None ∷ None ∷ []) []
+  one : {f : Form} {u : Written} → Formed text (Some f) u → FormsAre text (Some f ∷ None ∷ None ∷ []) (u ∷ [])
+  two : {f g : Form} {u v : Written} → Formed text (Some f) u → Formed text (Some g) v → FormsAre text (Some f ∷ Some g ∷ None ∷ []) (u ∷ v ∷ [])
+  three : {f g h : Form} {u v w : Written} → Formed text (Some f) u → Formed text (Some g) v → Formed text (Some h) w → FormsAre text (Some f ∷ Some g ∷ Some h ∷ []) (u ∷ v ∷ w ∷ [])
+
+-- operands that no three places take
+abbrev pub Untaken : List Written → Type 0
+Untaken ws = (ks : List OperandKind) → length ks ≤ 3 → takes_all ks ws ≡ false
+
+-- operands as the code has them, none where no entry can take them
+abbrev pub OperandRow : List ℕ → Option Operands → List Written → Type 0
+OperandRow text (Some o) ws = FormsAre text o.forms ws
+OperandRow text None ws = Untaken ws

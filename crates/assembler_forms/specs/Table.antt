@@ -1,13 +1,14 @@
 -- The entries of the words as numbers, as the code has them.
-use Rattle.std.specs.Prelude.{◌≡◌, Bool, true, ◌&&◌, ◌||◌, List, [], ◌∷◌, ℕ, zero, suc, ◌+◌, ◌*◌, ◌/◌, ◌-◌, ◌%◌, ◌^◌, eqb, ltb, leb, length}
+use Rattle.std.specs.Prelude.{◌≡◌, Bool, true, false, ◌&&◌, List, [], ◌∷◌, ℕ, zero, suc, ◌+◌, ◌*◌, ◌/◌, ◌%◌, ◌^◌, Option, Some, None, eqb, ltb, length, zip}
+use Rattle.std.specs.List.{list_all}
 use Rattle.ground_rules.specs.Choice.{pick}
 use Rattle.listing_rules.specs.Entries.{OperandKind, Entry}
 use Rattle.listing_rules.specs.Entries.OperandKind.{'R, 'G, 'P, 'M, 'byte, 'word, 'bit, 'width, 'short, 'long}
-use Rattle.assembly_rules.specs.Operands.{Written}
-use Rattle.assembly_rules.specs.Operands.Written.{register, memory, value, nothing}
+use Rattle.assembly_rules.specs.Operands.{takes}
 use Rattle.assembler_forms.specs.declared.operands.Form.{Form}
-use Rattle.assembler_forms.specs.declared.operands.Operands.{Operands}
-use Rattle.assembler_forms.specs.declared.table.Codes.{Codes}
+use Rattle.assembler_forms.specs.declared.table.EntryCode.{EntryCode}
+use Rattle.assembler_forms.specs.declared.table.PlaceKind.{PlaceKind}
+use Rattle.assembler_forms.specs.declared.table.PlaceKind.TheVariants.{Register, General, Pointer, Memory, Byte, Word, Bit, Width, Short, Long}
 use Rattle.assembler_forms.specs.Forms.{written_form}
 
 -- characters in one number, the first in its lowest eight bits, and 1 above the last
@@ -52,44 +53,59 @@ kinds_code (suc n) (k ∷ ks) = kind_code k * 16 ^ n + kinds_code n ks
 unfoldable pub entry_code : Entry → ℕ
 entry_code e = kinds_code 3 e.kinds * 0x100000 + (e.rrr * 0x10000 + (e.dd * 0x1000 + (e.w * 0x100 + e.opcode)))
 
--- no entry
-abbrev pub no_code : ℕ
-no_code = 0xF0000000
+-- the same as the code has it
+abbrev pub coded : Entry → EntryCode
+coded e = record { 0 = entry_code e }
 
--- the numbers of the entries of a word, by the word's number
-unfoldable pub codes_by : List Entry → ℕ → List ℕ
+-- the entries of a word, by the word's number
+unfoldable pub codes_by : List Entry → ℕ → List EntryCode
 codes_by [] n = []
-codes_by (e ∷ es) n = pick (eqb n (packed_word e.word)) (entry_code e ∷ codes_by es n) (codes_by es n)
+codes_by (e ∷ es) n = pick (eqb n (packed_word e.word)) (coded e ∷ codes_by es n) (codes_by es n)
 
--- up to three of them, as the code has them
-unfoldable pub codes_in : Codes → List ℕ
-codes_in c = pick (eqb c.0 no_code) [] (c.0 ∷ pick (eqb c.1 no_code) [] (c.1 ∷ pick (eqb c.2 no_code) [] (c.2 ∷ [])))
+-- a kind of place as the code has it
+abbrev pub kind_of : PlaceKind → OperandKind
+kind_of Register = 'R
+kind_of General = 'G
+kind_of Pointer = 'P
+kind_of Memory = 'M
+kind_of Byte = 'byte
+kind_of Word = 'word
+kind_of Bit = 'bit
+kind_of Width = 'width
+kind_of Short = 'short
+kind_of Long = 'long
 
--- what an operand is to a place: 1 a register that holds a pointer, 2 another, 3 CC, 4 memory, 5 a number, 6 nothing; 0 where there is no operand
-unfoldable pub class_of : Written → ℕ
-class_of (register r) = pick (ltb r 3 || eqb r 4) 1 (pick (eqb r 6) 3 2)
-class_of (memory mm aa ts) = 4
-class_of (value ts) = 5
-class_of nothing = 6
+-- a kind by its digit, none for 0
+unfoldable pub kind_from : ℕ → Option PlaceKind
+kind_from n =
+    pick (eqb n 1) (Some Register)
+    (pick (eqb n 2) (Some General)
+    (pick (eqb n 3) (Some Pointer)
+    (pick (eqb n 4) (Some Memory)
+    (pick (eqb n 5) (Some Byte)
+    (pick (eqb n 6) (Some Word)
+    (pick (eqb n 7) (Some Bit)
+    (pick (eqb n 8) (Some Width)
+    (pick (eqb n 9) (Some Short)
+    (pick (eqb n 10) (Some Long) None)))))))))
 
--- whether a place takes an operand: R every register, G all but CC, P those that hold pointers
-unfoldable pub takes_class : ℕ → ℕ → Bool
-takes_class kind class =
-    pick (ltb 4 kind) (eqb class 5) (pick (eqb kind 4) (eqb class 4) (pick (eqb kind 0) (eqb class 0) (leb 1 class && leb class (4 - kind))))
+-- the kinds of an entry's three places
+unfoldable pub kinds_in : EntryCode → List (Option PlaceKind)
+kinds_in c = kind_from (c.0 / 0x10000000 % 16) ∷ kind_from (c.0 / 0x1000000 % 16) ∷ kind_from (c.0 / 0x100000 % 16) ∷ []
 
-unfoldable pub takes_code : ℕ → ℕ → ℕ → ℕ → Bool
-takes_code code a b c = takes_class (code / 0x10000000 % 16) a && (takes_class (code / 0x1000000 % 16) b && takes_class (code / 0x100000 % 16) c)
+-- whether a place takes an operand, by the rules; what an operand is does not depend on the text
+abbrev pub kind_takes : PlaceKind → Form → Bool
+kind_takes k f = takes (kind_of k) (written_form [] f)
 
--- the first of some entries that takes three operands
-unfoldable pub chosen_by : List ℕ → ℕ → ℕ → ℕ → ℕ
-chosen_by [] a b c = no_code
-chosen_by (code ∷ codes) a b c = pick (takes_code code a b c) code (chosen_by codes a b c)
+abbrev pub place_takes : Option PlaceKind → Option Form → Bool
+place_takes None None = true
+place_takes None (Some f) = false
+place_takes (Some k) None = false
+place_takes (Some k) (Some f) = kind_takes k f
 
--- the class of an operand that may be there, and the first of some entries that takes operands as the code has them
-abbrev pub class_there : Bool → Form → ℕ
-class_there there f = pick there (class_of (written_form [] f)) 0
+-- whether all places of an entry take operands
+abbrev pub places_take : List (Option PlaceKind) → List (Option Form) → Bool
+places_take ks fs = list_all (λ p. place_takes p.0 p.1) (zip ks fs)
 
-unfoldable pub fitting_by : List ℕ → Operands → ℕ
-fitting_by codes o =
-    pick (ltb 3 o.count) no_code
-    (chosen_by codes (class_there (ltb 0 o.count) o.first) (class_there (ltb 1 o.count) o.second) (class_there (ltb 2 o.count) o.third))
+unfoldable pub code_takes : EntryCode → List (Option Form) → Bool
+code_takes c fs = places_take (kinds_in c) fs

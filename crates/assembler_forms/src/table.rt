@@ -1,19 +1,143 @@
 // The entries of the words, as numbers.
-ghost use Rattle.std.specs.Prelude.{[], ◌≡◌};
+ghost use Rattle.std.specs.Prelude.{◌≡◌, ◌/◌, ◌%◌, zip};
+ghost use Rattle.std.specs.List.{find, list_all};
 ghost use Rattle.listing_rules.specs.Entries.{entries};
 ghost use Rattle.assembly_rules.specs.Text.{capitals};
-ghost use Rattle.assembler_forms.specs.Forms.{written_form};
-ghost use Rattle.assembler_forms.specs.Table.{NumberIs, codes_by, codes_in, class_of, takes_class, takes_code, chosen_by, class_there, fitting_by};
+ghost use Rattle.assembler_forms.specs.Table.{NumberIs, kind_from, kinds_in, codes_by, kind_takes, place_takes, code_takes};
 
 use crate::operands::{Form, Operands};
 use assembler_text::characters;
 
-// No entry.
-pub const NONE: u32 = 0xF0000000;
+// What a place of an entry takes: any register, any but CC, one that holds a pointer; memory; a byte or a word of data; a bit's
+// number, a width; a target that one byte reaches, or two.
+#[derive(Clone, Copy, PartialEq, Eq)]
+pub enum PlaceKind {
+    Register,
+    General,
+    Pointer,
+    Memory,
+    Byte,
+    Word,
+    Bit,
+    Width,
+    Short,
+    Long,
+}
 
-// Up to three entries of one word, NONE behind them.
+impl PlaceKind {
+    #[tactic(auto, unfolding(crate::specs::Table::kind_from))]
+    // The kind of a place by its digit in an entry's number, none for 0.
+    fn from_digit(digit: u32) -> Option<PlaceKind>
+        ensures { result ≡ kind_from digit }
+    {
+        match digit {
+            1 => Some(PlaceKind::Register),
+            2 => Some(PlaceKind::General),
+            3 => Some(PlaceKind::Pointer),
+            4 => Some(PlaceKind::Memory),
+            5 => Some(PlaceKind::Byte),
+            6 => Some(PlaceKind::Word),
+            7 => Some(PlaceKind::Bit),
+            8 => Some(PlaceKind::Width),
+            9 => Some(PlaceKind::Short),
+            10 => Some(PlaceKind::Long),
+            _ => None,
+        }
+    }
+
+    #[tactic(auto, unfolding(assembly_rules::specs::Operands::takes))]
+    // Whether a place takes an operand.
+    fn takes(self, form: Form) -> bool
+        ensures { result ≡ kind_takes self form }
+    {
+        match form {
+            Form::Register(r) => match self {
+                PlaceKind::Register => true,
+                PlaceKind::General => r != 6,
+                PlaceKind::Pointer => r < 3 || r == 4,
+                _ => false,
+            },
+            Form::Memory { .. } => self == PlaceKind::Memory,
+            Form::Offset { .. } => self == PlaceKind::Memory,
+            Form::Value(_) => match self {
+                PlaceKind::Register => false,
+                PlaceKind::General => false,
+                PlaceKind::Pointer => false,
+                PlaceKind::Memory => false,
+                _ => true,
+            },
+        }
+    }
+}
+
+// Whether a place takes an operand, where there are both; else there is neither.
+fn place_takes(kind: Option<PlaceKind>, form: Option<Form>) -> bool
+    ensures { result ≡ place_takes kind form }
+{
+    match (kind, form) {
+        (Some(kind), Some(form)) => kind.takes(form),
+        (None, None) => true,
+        _ => false,
+    }
+}
+
+// An entry of a word in one number: three digits for the kinds of its places, then RRR, dd, W and the opcode. A number, since
+// 66 entries with slices of kinds would be a table of addresses, and six fields in each line no plainer than its digits.
 #[derive(Clone, Copy)]
-pub struct Codes(pub u32, pub u32, pub u32);
+pub struct EntryCode(pub u32);
+
+impl EntryCode {
+    #[tactic(auto, unfolding(crate::specs::Table::kinds_in))]
+    // The kinds of its places, none behind the last.
+    pub fn kinds(self) -> [Option<PlaceKind>; 3]
+        ensures { result ≡ kinds_in self }
+    {
+        [
+            PlaceKind::from_digit(self.0 / 0x10000000 % 16),
+            PlaceKind::from_digit(self.0 / 0x1000000 % 16),
+            PlaceKind::from_digit(self.0 / 0x100000 % 16),
+        ]
+    }
+
+    // RRR of its pair, where no operand gives it.
+    pub fn rrr(self) -> u32
+        ensures { result ≡ self.0 / 0x10000 % 16 }
+    {
+        self.0 / 0x10000 % 16
+    }
+
+    // The dd of its pair.
+    pub fn dd(self) -> u32
+        ensures { result ≡ self.0 / 0x1000 % 16 }
+    {
+        self.0 / 0x1000 % 16
+    }
+
+    // W of its pair.
+    pub fn w(self) -> u32
+        ensures { result ≡ self.0 / 0x100 % 16 }
+    {
+        self.0 / 0x100 % 16
+    }
+
+    // The opcode of its pair.
+    pub fn opcode(self) -> u32
+        ensures { result ≡ self.0 % 256 }
+    {
+        self.0 % 256
+    }
+
+    #[tactic(auto, unfolding(crate::specs::Table::code_takes))]
+    // Whether its places take operands.
+    fn takes(self, o: Operands) -> bool
+        ensures { result ≡ code_takes self o.forms }
+    {
+        self.kinds()
+            .iter()
+            .zip(&o.forms)
+            .all(|(kind, form)| place_takes(*kind, *form))
+    }
+}
 
 // The characters of a run as one number, the first in its lowest eight bits, and 1 above the last; 0 where they are more than
 // six.
@@ -24,164 +148,89 @@ pub fn run_number(run: &[u8]) -> u64
         return 0;
     }
     let mut n: u64 = 1;
-    let mut i = run.len();
-    while 0 < i {
-        i -= 1;
-        n = n * 256 + characters::capital(run[i]) as u64;
+    for c in run.iter().rev() {
+        n = n * 256 + u64::from(characters::capital(*c));
     }
     n
 }
 
-// The entries of a word by its number: three digits for the kinds of its places, then RRR, dd, W and the opcode.
-pub fn codes_of(word: u64) -> Codes
-    ensures { codes_in result ≡ codes_by entries word }
+// The entries of a word by its number.
+pub fn codes_of(word: u64) -> &'static [EntryCode]
+    ensures { result.now ≡ codes_by entries word }
 {
     match word {
-        0x1504F4E => Codes(0x00000000, NONE, NONE),
-        0x152544E4953 => Codes(0x00020000, NONE, NONE),
-        0x152454658 => Codes(0x00030000, NONE, NONE),
-        0x1444957 => Codes(0x88040000, NONE, NONE),
-        0x1544C48 => Codes(0x00010012, NONE, NONE),
-        0x14944504C => Codes(0x36602102, NONE, NONE),
-        0x144504C => Codes(0x34000122, NONE, NONE),
-        0x150564F4D => Codes(0x34000123, 0x43000126, NONE),
-        0x1564F4D => Codes(0x14000120, 0x41000121, 0x44000124),
-        0x142564F4D => Codes(0x14000020, 0x41000021, 0x44000024),
-        0x149564F4D => Codes(0x1600210C, 0x46002113, NONE),
-        0x14942564F4D => Codes(0x1500100C, 0x45001013, NONE),
-        0x1444441 => Codes(0x24000128, 0x42000134, NONE),
-        0x149444441 => Codes(0x26002108, 0x46002130, NONE),
-        0x142444441 => Codes(0x24000028, 0x42000034, NONE),
-        0x14942444441 => Codes(0x25001008, 0x45001030, NONE),
-        0x1524F => Codes(0x24000129, 0x42000135, NONE),
-        0x149524F => Codes(0x26002109, 0x46002131, NONE),
-        0x142524F => Codes(0x24000029, 0x42000035, NONE),
-        0x14942524F => Codes(0x25001009, 0x45001031, NONE),
-        0x1444E41 => Codes(0x2400012A, 0x42000136, NONE),
-        0x149444E41 => Codes(0x2600210A, 0x46002132, NONE),
-        0x142444E41 => Codes(0x2400002A, 0x42000036, NONE),
-        0x14942444E41 => Codes(0x2500100A, 0x45001032, NONE),
-        0x1544F4E => Codes(0x2000000B, 0x40000137, 0x2400012B),
-        0x1434E49 => Codes(0x2000000E, 0x4000013A, NONE),
-        0x1434544 => Codes(0x2000000F, 0x4000013B, NONE),
-        0x142544F4E => Codes(0x40000037, 0x2400002B, NONE),
-        0x142434E49 => Codes(0x4000003A, NONE, NONE),
-        0x142434544 => Codes(0x4000003B, NONE, NONE),
-        0x1504D4A => Codes(0x90041008, NONE, NONE),
-        0x15A4A => Codes(0x29001011, 0x49001139, NONE),
-        0x15A4E4A => Codes(0x29001010, 0x49001138, NONE),
-        0x1425A4A => Codes(0x49001039, NONE, NONE),
-        0x1425A4E4A => Codes(0x49001038, NONE, NONE),
-        0x145434D4A => Codes(0x4900102C, NONE, NONE),
-        0x1454E434D4A => Codes(0x4900102D, NONE, NONE),
-        0x14C4C4143 => Codes(0x49041127, NONE, NONE),
-        0x154424A => Codes(0x4790102F, NONE, NONE),
-        0x154424E4A => Codes(0x4790102E, NONE, NONE),
-        0x1504D4A4C => Codes(0xA0042108, NONE, NONE),
-        0x15A4A4C => Codes(0x2A002011, 0x4A002139, NONE),
-        0x15A4E4A4C => Codes(0x2A002010, 0x4A002138, NONE),
-        0x1425A4A4C => Codes(0x4A002039, NONE, NONE),
-        0x1425A4E4A4C => Codes(0x4A002038, NONE, NONE),
-        0x145434D4A4C => Codes(0x4A00202C, NONE, NONE),
-        0x1454E434D4A4C => Codes(0x4A00202D, NONE, NONE),
-        0x14C4C41434C => Codes(0x4A042127, NONE, NONE),
-        0x154424A4C => Codes(0x47A0202F, NONE, NONE),
-        0x154424E4A4C => Codes(0x47A0202E, NONE, NONE),
-        0x14C5354 => Codes(0x45903025, NONE, NONE),
-        0x142544553 => Codes(0x4700003D, NONE, NONE),
-        0x1524C43 => Codes(0x4700003E, NONE, NONE),
-        _ => Codes(NONE, NONE, NONE),
+        0x1504F4E => &[EntryCode(0x00000000)],
+        0x152544E4953 => &[EntryCode(0x00020000)],
+        0x152454658 => &[EntryCode(0x00030000)],
+        0x1444957 => &[EntryCode(0x88040000)],
+        0x1544C48 => &[EntryCode(0x00010012)],
+        0x14944504C => &[EntryCode(0x36602102)],
+        0x144504C => &[EntryCode(0x34000122)],
+        0x150564F4D => &[EntryCode(0x34000123), EntryCode(0x43000126)],
+        0x1564F4D => &[
+            EntryCode(0x14000120),
+            EntryCode(0x41000121),
+            EntryCode(0x44000124),
+        ],
+        0x142564F4D => &[
+            EntryCode(0x14000020),
+            EntryCode(0x41000021),
+            EntryCode(0x44000024),
+        ],
+        0x149564F4D => &[EntryCode(0x1600210C), EntryCode(0x46002113)],
+        0x14942564F4D => &[EntryCode(0x1500100C), EntryCode(0x45001013)],
+        0x1444441 => &[EntryCode(0x24000128), EntryCode(0x42000134)],
+        0x149444441 => &[EntryCode(0x26002108), EntryCode(0x46002130)],
+        0x142444441 => &[EntryCode(0x24000028), EntryCode(0x42000034)],
+        0x14942444441 => &[EntryCode(0x25001008), EntryCode(0x45001030)],
+        0x1524F => &[EntryCode(0x24000129), EntryCode(0x42000135)],
+        0x149524F => &[EntryCode(0x26002109), EntryCode(0x46002131)],
+        0x142524F => &[EntryCode(0x24000029), EntryCode(0x42000035)],
+        0x14942524F => &[EntryCode(0x25001009), EntryCode(0x45001031)],
+        0x1444E41 => &[EntryCode(0x2400012A), EntryCode(0x42000136)],
+        0x149444E41 => &[EntryCode(0x2600210A), EntryCode(0x46002132)],
+        0x142444E41 => &[EntryCode(0x2400002A), EntryCode(0x42000036)],
+        0x14942444E41 => &[EntryCode(0x2500100A), EntryCode(0x45001032)],
+        0x1544F4E => &[
+            EntryCode(0x2000000B),
+            EntryCode(0x40000137),
+            EntryCode(0x2400012B),
+        ],
+        0x1434E49 => &[EntryCode(0x2000000E), EntryCode(0x4000013A)],
+        0x1434544 => &[EntryCode(0x2000000F), EntryCode(0x4000013B)],
+        0x142544F4E => &[EntryCode(0x40000037), EntryCode(0x2400002B)],
+        0x142434E49 => &[EntryCode(0x4000003A)],
+        0x142434544 => &[EntryCode(0x4000003B)],
+        0x1504D4A => &[EntryCode(0x90041008)],
+        0x15A4A => &[EntryCode(0x29001011), EntryCode(0x49001139)],
+        0x15A4E4A => &[EntryCode(0x29001010), EntryCode(0x49001138)],
+        0x1425A4A => &[EntryCode(0x49001039)],
+        0x1425A4E4A => &[EntryCode(0x49001038)],
+        0x145434D4A => &[EntryCode(0x4900102C)],
+        0x1454E434D4A => &[EntryCode(0x4900102D)],
+        0x14C4C4143 => &[EntryCode(0x49041127)],
+        0x154424A => &[EntryCode(0x4790102F)],
+        0x154424E4A => &[EntryCode(0x4790102E)],
+        0x1504D4A4C => &[EntryCode(0xA0042108)],
+        0x15A4A4C => &[EntryCode(0x2A002011), EntryCode(0x4A002139)],
+        0x15A4E4A4C => &[EntryCode(0x2A002010), EntryCode(0x4A002138)],
+        0x1425A4A4C => &[EntryCode(0x4A002039)],
+        0x1425A4E4A4C => &[EntryCode(0x4A002038)],
+        0x145434D4A4C => &[EntryCode(0x4A00202C)],
+        0x1454E434D4A4C => &[EntryCode(0x4A00202D)],
+        0x14C4C41434C => &[EntryCode(0x4A042127)],
+        0x154424A4C => &[EntryCode(0x47A0202F)],
+        0x154424E4A4C => &[EntryCode(0x47A0202E)],
+        0x14C5354 => &[EntryCode(0x45903025)],
+        0x142544553 => &[EntryCode(0x4700003D)],
+        0x1524C43 => &[EntryCode(0x4700003E)],
+        _ => &[],
     }
 }
 
-// What an operand is to a place.
-fn class(f: Form) -> u32
-    ensures { result ≡ class_of (written_form [] f) }
+// The first of some entries that takes operands.
+pub fn fitting(codes: &[EntryCode], o: Operands) -> Option<EntryCode>
+    ensures { result ≡ find (λ c. code_takes c o.forms) codes.now }
 {
-    match f {
-        Form::Register(r) => {
-            if (r < 3) | (r == 4) {
-                return 1;
-            }
-            if r == 6 { 3 } else { 2 }
-        }
-        Form::Memory(..) => 4,
-        Form::Value(..) => 5,
-        Form::NoOperand => 6,
-    }
-}
-
-// Whether a place takes an operand.
-fn takes(kind: u32, class: u32) -> bool
-    ensures { result ≡ takes_class kind class }
-{
-    if 4 < kind {
-        return class == 5;
-    }
-    if kind == 4 {
-        return class == 4;
-    }
-    if kind == 0 {
-        return class == 0;
-    }
-    (1 <= class) & (class <= 4 - kind)
-}
-
-// Whether an entry takes three operands, 0 for those that there are not.
-fn takes_all(code: u32, a: u32, b: u32, c: u32) -> bool
-    ensures { result ≡ takes_code code a b c }
-{
-    takes(code / 0x10000000 % 16, a)
-        & (takes(code / 0x1000000 % 16, b) & takes(code / 0x100000 % 16, c))
-}
-
-// The first of up to three entries that takes three operands, or NONE.
-fn chosen(k: Codes, a: u32, b: u32, c: u32) -> u32
-    ensures { result ≡ chosen_by (codes_in k) a b c }
-{
-    if k.0 == NONE {
-        return NONE;
-    }
-    if takes_all(k.0, a, b, c) {
-        return k.0;
-    }
-    if k.1 == NONE {
-        return NONE;
-    }
-    if takes_all(k.1, a, b, c) {
-        return k.1;
-    }
-    if k.2 == NONE {
-        return NONE;
-    }
-    if takes_all(k.2, a, b, c) {
-        return k.2;
-    }
-    NONE
-}
-
-// The class of an operand that may be there, 0 where it is not.
-fn class_there(there: bool, f: Form) -> u32
-    ensures { result ≡ class_there there f }
-{
-    if there {
-        return class(f);
-    }
-    0
-}
-
-// The first of up to three entries that takes some operands, or NONE.
-pub fn fitting(k: Codes, o: Operands) -> u32
-    ensures { result ≡ fitting_by (codes_in k) o }
-{
-    if 3 < o.count {
-        return NONE;
-    }
-    let first = o.first;
-    let second = o.second;
-    let third = o.third;
-    let a = class_there(0 < o.count, first);
-    let b = class_there(1 < o.count, second);
-    let c = class_there(2 < o.count, third);
-    chosen(k, a, b, c)
+    codes.iter().copied().find(|code| code.takes(o))
 }

@@ -15,34 +15,39 @@ use Rattle.assembly_rules.specs.Text.{Token, tokens_of}
 use Rattle.assembly_rules.specs.Text.Token.{run}
 use Rattle.assembly_rules.specs.Sums.{register_number}
 use Rattle.assembly_rules.specs.Assembly.{is_reserved}
-use Rattle.assembly_rules.specs.Operands.{Written, takes_all, has_word, Chosen, entry_in, is_shallow, all_shallow, operands_from}
+use Rattle.assembly_rules.specs.Operands.{Written, takes_all, has_word, Chosen, entry_in, all_shallow, operands_from}
 use Rattle.assembly_rules.specs.Operands.Chosen.{taken, untaken}
 use Rattle.assembly_rules.proofs.WritingLaws.{both_left, both_right}
 use Rattle.assembly_rules.specs.Statements.{operand_parts, items_from, formed_by, word_statement, statement_of}
 use Rattle.assembly_rules.specs.Statements.Statement.{refused}
-use Rattle.assembler_text.specs.declared.tokens.TokenFound.TheVariants.{Nothing, Mark}
-use Rattle.assembler_text.specs.Places.{token_at}
+use Rattle.std.specs.Prelude.{Option, Some, None, Ok, Err, is_some}
+use Rattle.std.specs.List.{find, list_all}
+use Rattle.assembler_text.specs.declared.tokens.TokenFound.TheVariants.{Mark}
+use Rattle.assembler_text.specs.Places.{token_at, register_named}
 use Rattle.assembler_text.proofs.PlaceLaws.{no-tokens-there, mark-tokens}
 use Rattle.assembler_forms.specs.declared.operands.Operands.{Operands}
-use Rattle.assembler_forms.specs.declared.table.Codes.{Codes}
-use Rattle.assembler_forms.specs.Rows.{OperandRow}
-use Rattle.assembler_forms.specs.Table.{packed_word, in_bytes, NumberIs, entry_code, no_code, codes_by, codes_in, fitting_by}
-use Rattle.assembler_forms.proofs.EntryLaws.{each_entry, right_entry, entries-right, Right, right_so, takes-length, word_same, chosen_number, fitting-told, word-told}
-use Rattle.assembler_lines.specs.declared.bodies.Body.TheVariants.{Blank, Instruction, Refused}
+use Rattle.assembler_forms.specs.declared.operands.Form.{Form}
+use Rattle.assembler_forms.specs.declared.table.EntryCode.{EntryCode}
+use Rattle.assembler_forms.specs.Forms.{low_by}
+use Rattle.assembler_forms.specs.Rows.{FormsAre, Untaken}
+use Rattle.assembler_forms.specs.Rows.FormsAre.{none, one, two, three}
+use Rattle.assembler_forms.specs.Table.{packed_word, in_bytes, NumberIs, coded, codes_by, code_takes}
+use Rattle.assembler_forms.proofs.FormLaws.{no-some, some-same}
+use Rattle.assembler_forms.proofs.EntryLaws.{each_entry, right_entry, entries-right, Right, right_so, takes-length, word_same, chosen_code, fitting-told, untaken-told, word-told}
+use Rattle.assembler_lines.specs.declared.bodies.Body.TheVariants.{Blank, Instruction}
+use Rattle.assembler_lines.specs.declared.bodies.LineRefusal.TheVariants.{UnknownWord, UnknownForm, TooDeep}
 use Rattle.assembler_lines.specs.Bodies.{Among, BodyIs}
 use Rattle.assembler_lines.specs.Bodies.Among.{here, later}
-use Rattle.assembler_lines.specs.Counts.{row_low}
 use Rattle.assembler_lines.proofs.WrittenLaws.{operands-sums}
-use Rattle.assembler_lines.proofs.ItemLaws.{and-true}
 
 -- no word
-pub body-none : (text : List ℕ) (at : ℕ) → token_at text at ≡ Nothing → BodyIs text Blank (statement_of (tokens_of (drop at text)))
+pub body-none : (text : List ℕ) (at : ℕ) → token_at text at ≡ None → BodyIs text (Ok Blank) (statement_of (tokens_of (drop at text)))
 unfolding statement_of
 body-none text at e = ap statement_of (no-tokens-there text at e)
 
-pub body-mark : (text : List ℕ) (at c next : ℕ) → token_at text at ≡ Mark c next → BodyIs text (Refused 30) (statement_of (tokens_of (drop at text)))
+pub body-mark : (text : List ℕ) (at c next : ℕ) → token_at text at ≡ Some (Mark c next) → BodyIs text (Err UnknownWord) (statement_of (tokens_of (drop at text)))
 unfolding statement_of
-body-mark text at c next e = (ap statement_of (mark-tokens text at c next e), (omega arith, omega arith))
+body-mark text at c next e = (ap statement_of (mark-tokens text at c next e), omega arith)
 
 same-swap : (a b : List ℕ) → same_text a b ≡ same_text b a
 unfolding same_text
@@ -86,14 +91,21 @@ entry_found (f ∷ es) word ws e k = go (same_text f.word word) (takes_all f.kin
 pub few-operands : (e : Entry) (ws : List Written) → Among e entries → takes_all e.kinds ws ≡ true → length ws ≤ 3
 few-operands e ws a h = omega (arith, (among-right e a).few, takes-length e.kinds ws h)
 
--- at most three operands are shallow as the code has it
-row-low : (text : List ℕ) (o : Operands) (ws : List Written) → length ws ≤ 3 → OperandRow text o ws → row_low o ≡ all_shallow ws
-unfolding row_low all_shallow
-row-low text o [] l h = rw h
-row-low text o (u ∷ []) l h = rw (h.1.low, h.0)
-row-low text o (u ∷ v ∷ []) l h = rw (h.1.0.low, h.1.1.low, h.0)
-row-low text o (u ∷ v ∷ w ∷ []) l h = rw (h.1.0.low, h.1.1.0.low, h.1.1.1.low, h.0) (ap (λ (b : Bool). is_shallow u && (is_shallow v && b)) (sym (and-true (is_shallow w))))
-row-low text o (u ∷ v ∷ w ∷ x ∷ ws) l h = absurd (omega arith)
+-- the operands are shallow as the code has it
+row-low : (text : List ℕ) (fs : List (Option Form)) (ws : List Written) → FormsAre text fs ws → list_all low_by fs ≡ all_shallow ws
+unfolding all_shallow
+row-low text fs ws none = refl
+row-low text fs ws (one h) = rw h.low
+row-low text fs ws (two h i) = rw (h.low, i.low)
+row-low text fs ws (three h i j) = rw (h.low, i.low, j.low)
+
+-- a register by its name
+register-is : (name : List ℕ) → is_some (register_named name) ≡ ltb (register_number name) 9
+register-is name = go (ltb (register_number name) 9)
+  where
+    go : (b : Bool) → is_some (pick b (Some (register_number name)) None) ≡ b
+    go true = refl
+    go false = refl
 
 -- a word by its number
 module _ (name : List ℕ) (n : ℕ) (k : NumberIs n name) where
@@ -105,9 +117,9 @@ module _ (name : List ℕ) (n : ℕ) (k : NumberIs n name) where
   unfolding packed_word in_bytes
   words-told = word_same (ascii "DW") name refl (omega arith) k ∙ same-swap (ascii "DW") name
 
-  pub reserved-told : (codes : Codes) → codes_in codes ≡ codes_by entries n → not (eqb codes.0 no_code) || (eqb n 0x14244 || (eqb n 0x15744 || ltb (register_number name) 9)) ≡ is_reserved name
+  pub reserved-told : (codes : List EntryCode) → codes ≡ codes_by entries n → not (eqb (length codes) 0) || (eqb n 0x14244 || (eqb n 0x15744 || is_some (register_named name))) ≡ is_reserved name
   unfolding is_reserved
-  reserved-told codes c = rw (word-told name n k codes c, bytes-told, words-told)
+  reserved-told codes c = rw (word-told name n k codes c, bytes-told, words-told, register-is name)
 
   module _ (ts : List Token) where
     pub says-bytes : n ≡ 0x14244 → statement_of (run name ∷ ts) ≡ items_from false (operand_parts ts)
@@ -118,58 +130,69 @@ module _ (name : List ℕ) (n : ℕ) (k : NumberIs n name) where
     unfolding statement_of
     says-words g h = rw (← bytes-told, ne_eqb n 0x14244 g, ← words-told, eq-eqb n 0x15744 h)
 
-    module _ (text : List ℕ) (g : n ≡ 0x14244 → ⊥) (h : n ≡ 0x15744 → ⊥) (codes : Codes) (c : codes_in codes ≡ codes_by entries n) where
-      says-word : statement_of (run name ∷ ts) ≡ pick (has_word entries name) (formed_by (entry_in entries name (operands_from (operand_parts ts))) (operands_from (operand_parts ts))) (refused 30)
-      unfolding statement_of word_statement
+    module _ (text : List ℕ) (g : n ≡ 0x14244 → ⊥) (h : n ≡ 0x15744 → ⊥) (codes : List EntryCode) (c : codes ≡ codes_by entries n) where
+      ws : List Written
+      ws = operands_from (operand_parts ts)
+
+      says-word : statement_of (run name ∷ ts) ≡ pick (has_word entries name) (formed_by (entry_in entries name ws) ws) (refused 30)
+      unfolding statement_of word_statement ws
       says-word = rw (← bytes-told, ne_eqb n 0x14244 g, ← words-told, ne_eqb n 0x15744 h)
 
-      pub says_nothing : codes.0 ≡ no_code → BodyIs text (Refused 30) (statement_of (run name ∷ ts))
-      says_nothing z = (says-word ∙ rw (word-told name n k codes c, eq-eqb codes.0 no_code z), (omega arith, omega arith))
+      pub says_nothing : eqb (length codes) 0 ≡ true → BodyIs text (Err UnknownWord) (statement_of (run name ∷ ts))
+      says_nothing z = (says-word ∙ rw (word-told name n k codes c, z), omega arith)
 
-      module _ (some : codes.0 ≡ no_code → ⊥) (o : Operands) (row : OperandRow text o (operands_from (operand_parts ts))) where
-        formed : statement_of (run name ∷ ts) ≡ formed_by (entry_in entries name (operands_from (operand_parts ts))) (operands_from (operand_parts ts))
-        formed = says-word ∙ rw (word-told name n k codes c, ne_eqb codes.0 no_code some)
+      module _ (some : eqb (length codes) 0 ≡ false) where
+        formed : statement_of (run name ∷ ts) ≡ formed_by (entry_in entries name ws) ws
+        formed = says-word ∙ rw (word-told name n k codes c, some)
 
-        told : fitting_by (codes_in codes) o ≡ chosen_number (entry_in entries name (operands_from (operand_parts ts)))
-        told = ap (λ (l : List ℕ). fitting_by l o) c ∙ fitting-told name n k text o (operands_from (operand_parts ts)) row
+        pub says-no-row : Untaken (operands_from (operand_parts ts)) → BodyIs text (Err UnknownForm) (statement_of (run name ∷ ts))
+        unfolding ws
+        says-no-row u = (formed ∙ rw (untaken-told name n k ws u), omega arith)
 
-        pub says-no-form : fitting_by (codes_in codes) o ≡ no_code → BodyIs text (Refused 31) (statement_of (run name ∷ ts))
-        says-no-form z = (formed ∙ go (entry_in entries name (operands_from (operand_parts ts))) refl (sym told ∙ z), (omega arith, omega arith))
-          where
-            go : (x : Chosen) → entry_in entries name (operands_from (operand_parts ts)) ≡ x → chosen_number x ≡ no_code → formed_by x (operands_from (operand_parts ts)) ≡ refused 31
-            go (taken e) f q = absurd (omega (arith, (among-right e (entry_found entries name (operands_from (operand_parts ts)) e f).listed).some, q))
-            go untaken f q = refl
+        module _ (o : Operands) (row : FormsAre text o.forms (operands_from (operand_parts ts))) where
+          told : find (λ (x : EntryCode). code_takes x o.forms) codes ≡ chosen_code (entry_in entries name ws)
+          unfolding ws
+          told = ap (find (λ (x : EntryCode). code_takes x o.forms)) c ∙ fitting-told name n k text o.forms ws row
 
-        module _ (code : ℕ) (is : code ≡ fitting_by (codes_in codes) o) (z : code ≡ no_code → ⊥) where
-          record Taken : Type 0 where
-            entry : Entry
-            so : entry_in entries name (operands_from (operand_parts ts)) ≡ taken entry
-            number : code ≡ entry_code entry
-            found : Found entry (operands_from (operand_parts ts)) entries
-
-          it : Taken
-          it = go (entry_in entries name (operands_from (operand_parts ts))) refl (is ∙ told)
+          pub says-no-form : find (λ (x : EntryCode). code_takes x o.forms) codes ≡ None → BodyIs text (Err UnknownForm) (statement_of (run name ∷ ts))
+          says-no-form z = (formed ∙ go (entry_in entries name ws) (sym told ∙ z), omega arith)
             where
-              go : (x : Chosen) → entry_in entries name (operands_from (operand_parts ts)) ≡ x → code ≡ chosen_number x → Taken
-              go (taken e) f q = record { entry = e; so = f; number = q; found = entry_found entries name (operands_from (operand_parts ts)) e f }
-              go untaken f q = absurd (z q)
+              go : (x : Chosen) → chosen_code x ≡ None → formed_by x ws ≡ refused 31
+              go (taken e) q = no-some (sym q)
+              go untaken q = refl
 
-          shallow : row_low o ≡ all_shallow (operands_from (operand_parts ts))
-          shallow = row-low text o (operands_from (operand_parts ts)) (few-operands it.entry (operands_from (operand_parts ts)) it.found.listed it.found.fits) row
+          module _ (code : EntryCode) (is : find (λ (x : EntryCode). code_takes x o.forms) codes ≡ Some code) where
+            record Taken : Type 0 where
+              entry : Entry
+              so : entry_in entries name ws ≡ taken entry
+              number : code ≡ coded entry
+              found : Found entry ws entries
 
-          pub says-deep : row_low o ≡ false → BodyIs text (Refused 32) (statement_of (run name ∷ ts))
-          says-deep l = (formed ∙ ap (λ (x : Chosen). formed_by x (operands_from (operand_parts ts))) it.so ∙ rw (sym shallow ∙ l), (omega arith, omega arith))
+            it : Taken
+            it = go (entry_in entries name ws) refl (sym is ∙ told)
+              where
+                go : (x : Chosen) → entry_in entries name ws ≡ x → Some code ≡ chosen_code x → Taken
+                go (taken e) f q = record { entry = e; so = f; number = some-same q; found = entry_found entries name ws e f }
+                go untaken f q = no-some (sym q)
 
-          pub says-form : row_low o ≡ true → BodyIs text (Instruction code o) (statement_of (run name ∷ ts))
-          says-form l =
-              record {
-                entry = it.entry;
-                written = operands_from (operand_parts ts);
-                same = formed ∙ ap (λ (x : Chosen). formed_by x (operands_from (operand_parts ts))) it.so ∙ rw (sym shallow ∙ l);
-                number = it.number;
-                listed = it.found.listed;
-                row = row;
-                fits = it.found.fits;
-                sums = operands-sums (operand_parts ts);
-                shallow = sym shallow ∙ l;
-              }
+            shallow : list_all low_by o.forms ≡ all_shallow ws
+            unfolding ws
+            shallow = row-low text o.forms ws row
+
+            pub says-deep : list_all low_by o.forms ≡ false → BodyIs text (Err TooDeep) (statement_of (run name ∷ ts))
+            says-deep l = (formed ∙ ap (λ (x : Chosen). formed_by x ws) it.so ∙ rw (sym shallow ∙ l), omega arith)
+
+            pub says-form : list_all low_by o.forms ≡ true → BodyIs text (Ok (Instruction code o)) (statement_of (run name ∷ ts))
+            unfolding ws
+            says-form l =
+                record {
+                  entry = it.entry;
+                  written = ws;
+                  same = formed ∙ ap (λ (x : Chosen). formed_by x ws) it.so ∙ rw (sym shallow ∙ l);
+                  number = it.number;
+                  listed = it.found.listed;
+                  row = row;
+                  fits = it.found.fits;
+                  sums = operands-sums (operand_parts ts);
+                  shallow = sym shallow ∙ l;
+                }

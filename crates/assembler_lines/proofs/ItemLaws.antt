@@ -5,7 +5,8 @@ use mathlib.Core.Bool.{Bool, true, false, ◌&&◌, false≢true}
 use mathlib.Core.List.{List, [], ◌∷◌}
 use Prim.Native.Nat.{ℕ, ◌+◌, ◌*◌, ◌≤◌, ◌<◌}
 use native.Mathlib.Omega.{arith}
-use lib.Dec.{leb}
+use lib.Dec.{ltb, leb}
+use borrow.Author.Tests.{ltb-true, ltb-false}
 use lib.ListN.{length, drop, drop_of_length-le}
 use Rattle.ground_rules.specs.Choice.{pick}
 use Rattle.assembly_rules.specs.Text.{Token, begun_by, tokens_of, is_comma, cut_at, before_comma}
@@ -14,9 +15,15 @@ use Rattle.assembly_rules.specs.Statements.{operand_parts, all_sums, all_low, it
 use Rattle.assembly_rules.specs.Statements.Statement.{items, refused}
 use Rattle.assembler_text.specs.Places.{stop_at}
 use Rattle.assembler_forms.specs.Forms.{operand_tokens}
-use Rattle.assembler_forms.specs.Rows.{comma_at}
-use Rattle.assembler_forms.proofs.RowLaws.{parts_from, parts-end, parts_more, part-ahead}
-use Rattle.assembler_lines.specs.declared.bodies.Body.TheVariants.{Items, Refused}
+use Rattle.std.specs.Prelude.{Option, Some, None, Ok, Err}
+use Rattle.assembler_forms.specs.declared.operands.Sum.{Sum}
+use Rattle.assembler_forms.specs.Forms.{whole_sum}
+use Rattle.assembler_forms.specs.Rows.{comma_at, next_part}
+use Rattle.assembler_forms.proofs.FormLaws.{sum-none}
+use Rattle.assembler_forms.proofs.FormLaws as forms
+use Rattle.assembler_forms.proofs.RowLaws.{parts_from, parts-end, parts_more, part-ahead, part-none, part-some}
+use Rattle.assembler_lines.specs.declared.bodies.Body.TheVariants.{Items}
+use Rattle.assembler_lines.specs.declared.bodies.LineRefusal.TheVariants.{UnknownForm, TooDeep}
 use Rattle.assembler_lines.specs.Bodies.{BodyIs}
 
 -- what data comes to, by its parts
@@ -66,62 +73,92 @@ pub and-true : (b : Bool) → b && true ≡ b
 and-true true = refl
 and-true false = refl
 
+-- all items passed
+pub record Done (text : List ℕ) (at : ℕ) (low : Bool) (count : ℕ) : Type 0 where
+  pub sums : all_sums (parts_from text at) ≡ true
+  pub lows : all_low (parts_from text at) ≡ low
+  pub many : length (parts_from text at) ≡ count
+  pub some : 0 < count
+  pub far : at + 2 * count ≤ length text + 1
+
+-- the same by the place of the next item
+abbrev pub PassedTo : List ℕ → ℕ → Bool → ℕ → Option ℕ → Type 0
+PassedTo text at low count (Some i) = Passed text at low count i
+PassedTo text at low count None = Done text at low count
+
+sum-here : (text : List ℕ) (i : ℕ) → is_sum (operand_tokens text i) ≡ true → i < length text
+unfolding tokens_of begun_by before_comma
+sum-here text i h = go (ltb i (length text)) refl
+  where
+    go : (b : Bool) → ltb i (length text) ≡ b → i < length text
+    go true e = ltb-true i (length text) e
+    go false e = absurd (false≢true (sym (ap (λ (cs : List ℕ). is_sum (before_comma (tokens_of cs))) (drop_of_length-le text (ltb-false i (length text) e)) ∙ no-sum) ∙ h))
+
 module _ (text : List ℕ) (at i count : ℕ) (low : Bool) (so : Passed text at low count i) where
   -- one that is no sum
-  pub items-wrong : (two : Bool) → is_sum (operand_tokens text i) ≡ false → (p : ℕ) → p ≡ stop_at text i → BodyIs text (Refused 31) (items_from two (operand_parts (tokens_of (drop at text))))
+  pub items-wrong : (two : Bool) → whole_sum text i ≡ None → BodyIs text (Err UnknownForm) (items_from two (operand_parts (tokens_of (drop at text))))
   unfolding all_sums
-  items-wrong two h p e = (wrong-parts two (tokens_of (drop at text)) (so.sums ∙ go (comma_at text p) refl), (omega arith, omega arith))
+  items-wrong two h = (wrong-parts two (tokens_of (drop at text)) (so.sums ∙ go (comma_at text p) refl), omega arith)
     where
+      p : ℕ
+      p = stop_at text i
+
       go : (b : Bool) → comma_at text p ≡ b → all_sums (parts_from text i) ≡ false
-      go true k = ap all_sums (parts_more text i p e k) ∙ rw h
-      go false k = ap all_sums (parts-end text i p e k) ∙ rw h
+      go true k = ap all_sums (parts_more text i p refl k) ∙ rw (sum-none text i h)
+      go false k = ap all_sums (parts-end text i p refl k) ∙ rw (sum-none text i h)
 
-  -- nothing more
-  pub items-over : (two : Bool) → length text ≤ i → BodyIs text (Refused 31) (items_from two (operand_parts (tokens_of (drop at text))))
-  unfolding tokens_of begun_by before_comma
-  items-over two l = items-wrong two (ap (λ (cs : List ℕ). is_sum (before_comma (tokens_of cs))) (drop_of_length-le text l) ∙ no-sum) _ refl
+  module _ (s : Sum) (e : whole_sum text i ≡ Some s) where
+    h : is_sum (operand_tokens text i) ≡ true
+    h = (forms.sum-some text i s e).sum
 
-  module _ (h : is_sum (operand_tokens text i) ≡ true) (here : Bool) (d : here ≡ leb (depth_of (operand_tokens text i)) 8) (p : ℕ) (e : p ≡ stop_at text i) where
+    d : s.low ≡ leb (depth_of (operand_tokens text i)) 8
+    d = (forms.sum-some text i s e).low
+
     -- one more
-    pub items-goes : comma_at text p ≡ true → Passed text at (low && here) (count + 1) (p + 1)
+    goes : (next : ℕ) → next_part text i ≡ Some next → Passed text at (low && s.low) (count + 1) next
     unfolding all_sums all_low
-    items-goes k =
-        let more = parts_more text i p e k in
+    goes next k =
+        let part = part-some text i next k in
+        let more = parts_more text i _ refl part.comma ∙ ap (λ (n : ℕ). operand_tokens text i ∷ parts_from text n) (sym part.here) in
         let some = sum-some (operand_tokens text i) h in
         record {
           sums = so.sums ∙ ap all_sums more ∙ rw h;
-          lows = so.lows ∙ ap (λ (parts : List (List Token)). low && all_low parts) more ∙ rw (← d) (and-three low here (all_low (parts_from text (p + 1))));
+          lows = so.lows ∙ ap (λ (parts : List (List Token)). low && all_low parts) more ∙ rw (← d) (and-three low s.low (all_low (parts_from text next)));
           many = omega (arith, so.many, ap length more);
-          far = omega (arith, so.far, part-ahead text i p some.0 some.1.0 e k some.1.1);
+          far = omega (arith, so.far, part.here, part-ahead text i _ some.0 some.1.0 refl part.comma some.1.1);
         }
 
     -- the last one
-    module _ (two : Bool) (k : comma_at text p ≡ false) where
-      all-sums : all_sums (parts_from text at) ≡ true
-      unfolding all_sums
-      all-sums = so.sums ∙ ap all_sums (parts-end text i p e k) ∙ rw h
+    ends : next_part text i ≡ None → Done text at (low && s.low) (count + 1)
+    unfolding all_sums all_low
+    ends k =
+        let more = parts-end text i _ refl (part-none text i k) in
+        record {
+          sums = so.sums ∙ ap all_sums more ∙ rw h;
+          lows = so.lows ∙ ap (λ (parts : List (List Token)). low && all_low parts) more ∙ rw (← d) (ap (λ (b : Bool). low && b) (and-true s.low));
+          many = so.many ∙ ap (λ (parts : List (List Token)). count + length parts) more;
+          some = omega arith;
+          far = omega (arith, so.far, sum-here text i h);
+        }
 
-      all-lows : all_low (parts_from text at) ≡ low && here
-      unfolding all_low
-      all-lows = so.lows ∙ ap (λ (parts : List (List Token)). low && all_low parts) (parts-end text i p e k) ∙ rw (← d) (ap (λ (b : Bool). low && b) (and-true here))
+    pub item-passed : (next : Option ℕ) → next ≡ next_part text i → PassedTo text at (low && s.low) (count + 1) next
+    item-passed (Some next) k = goes next (sym k)
+    item-passed None k = ends (sym k)
 
-      counted : length (parts_from text at) ≡ count + 1
-      counted = so.many ∙ ap (λ (parts : List (List Token)). count + length parts) (parts-end text i p e k)
+module _ (text : List ℕ) (at count : ℕ) (low : Bool) (so : Done text at low count) where
+  same : operand_parts (tokens_of (drop at text)) ≡ parts_from text at
+  same = parts-of (tokens_of (drop at text)) so.sums
 
-      same : operand_parts (tokens_of (drop at text)) ≡ parts_from text at
-      same = parts-of (tokens_of (drop at text)) all-sums
+  pub items-deep : (two : Bool) → low ≡ false → BodyIs text (Err TooDeep) (items_from two (operand_parts (tokens_of (drop at text))))
+  items-deep two z = (ap (items_from two) same ∙ some-sums two (parts_from text at) false (omega (arith, so.many, so.some)) so.sums (so.lows ∙ z), omega arith)
 
-      pub items-deep : low && here ≡ false → BodyIs text (Refused 32) (items_from two (operand_parts (tokens_of (drop at text))))
-      items-deep z = (ap (items_from two) same ∙ some-sums two (parts_from text at) false (omega (arith, counted)) all-sums (all-lows ∙ z), (omega arith, omega arith))
-
-      pub items-are : low && here ≡ true → (b : Bool) → two ≡ b → (size : ℕ) → size ≡ pick b 2 1 * (count + 1) → BodyIs text (Items b at size) (items_from two (operand_parts (tokens_of (drop at text))))
-      unfolding statement_size
-      items-are z b t size f =
-          let s : items_from two (operand_parts (tokens_of (drop at text))) ≡ items two (parts_from text at) = ap (items_from two) same ∙ some-sums two (parts_from text at) true (omega (arith, counted)) all-sums (all-lows ∙ z) in
-          rw (← t)
-          (record {
-            same = s ∙ ap (items two) (sym same);
-            sized = f ∙ ap (λ (x : Bool). pick x 2 1 * (count + 1)) (sym t) ∙ ap (λ (n : ℕ). pick two 2 1 * n) (sym counted) ∙ sym (ap statement_size s);
-            sums = ap all_sums same ∙ all-sums;
-            low = ap all_low same ∙ all-lows ∙ z;
-          })
+  pub items-are : low ≡ true → (two : Bool) (size : ℕ) → size ≡ pick two 2 1 * count → BodyIs text (Ok (Items two at size)) (items_from two (operand_parts (tokens_of (drop at text))))
+  unfolding statement_size
+  items-are z two size f =
+      let s : items_from two (operand_parts (tokens_of (drop at text))) ≡ items two (parts_from text at) = ap (items_from two) same ∙ some-sums two (parts_from text at) true (omega (arith, so.many, so.some)) so.sums (so.lows ∙ z) in
+      record {
+        same = s ∙ ap (items two) (sym same);
+        sized = f ∙ ap (λ (n : ℕ). pick two 2 1 * n) (sym so.many) ∙ sym (ap statement_size s);
+        sums = ap all_sums same ∙ so.sums;
+        low = ap all_low same ∙ so.lows ∙ z;
+      }

@@ -5,11 +5,9 @@ ghost use Rattle.assembly_rules.specs.Text.Token.{run};
 ghost use Rattle.assembly_rules.specs.Statements.{operand_parts, items_from, statement_of};
 ghost use Rattle.assembly_rules.specs.Assembly.{is_reserved};
 ghost use Rattle.assembler_forms.specs.Table.{NumberIs};
-ghost use Rattle.assembler_lines.specs.Bodies.{HeadIs, BodyIs};
-ghost use Rattle.assembler_lines.specs.Counts.{low_there, row_low};
+ghost use Rattle.assembler_lines.specs.Bodies.{run_at, HeadIs, BodyIs};
 
-use crate::bodies::{Body, Head};
-use assembler_forms::operands::{Form, Operands};
+use crate::bodies::{Body, Head, LineRefusal, NameSpan};
 use assembler_forms::{operands, table};
 use assembler_text::tokens::TokenFound;
 use assembler_text::{characters, sums, tokens};
@@ -19,102 +17,68 @@ const DB: u64 = 0x14244;
 
 const DW: u64 = 0x15744;
 
+#[tactic(auto, unfolding(crate::specs::Bodies::run_at))]
+// The run that stands next.
+fn run_at(text: &[u8], at: usize) -> Option<NameSpan>
+    ensures { result ≡ run_at text.now at }
+{
+    match tokens::token_at(text, at) {
+        Some(TokenFound::Run { from, to }) => Some(NameSpan { from, to }),
+        _ => None,
+    }
+}
+
 // The front of the line at a place: a name and a colon, or nothing.
 pub fn head(text: &[u8], at: usize) -> Head
     ensures { HeadIs text.now at result }
 {
-    let none = Head {
-        labelled: false,
-        from: at,
-        to: at,
+    let unlabelled = Head {
+        label: None,
         body: at,
     };
-    match tokens::token_at(text, at) {
-        TokenFound::Nothing => none,
-        TokenFound::Mark(..) => none,
-        TokenFound::Run(from, to) => {
-            if characters::is_digit(characters::capital(text[from])) {
-                return none;
-            }
-            match tokens::token_at(text, to) {
-                TokenFound::Nothing => none,
-                TokenFound::Run(..) => none,
-                TokenFound::Mark(c, next) => {
-                    if c != 58 {
-                        return none;
-                    }
-                    Head {
-                        labelled: true,
-                        from,
-                        to,
-                        body: next,
-                    }
-                }
-            }
-        }
+    let Some(name) = run_at(text, at) else {
+        return unlabelled;
+    };
+    if characters::is_digit(characters::capital(text[name.from])) {
+        return unlabelled;
+    }
+    match operands::past(text, name.to, b':') {
+        Some(body) => Head {
+            label: Some(name),
+            body,
+        },
+        None => unlabelled,
     }
 }
 
-// Data from a place on: one sum or more, between commas.
-fn items(text: &[u8], at: usize, two: bool) -> Body
+// Data from a place on: one sum or more, between commas. No iterator of the library walks commas, and one of its own would ask
+// more laws than the loop.
+fn items(text: &[u8], at: usize, two: bool) -> Result<Body, LineRefusal>
     requires { 1 ≤ at }
     ensures { BodyIs text.now result (items_from two (operand_parts (tokens_of (drop at text.now)))) }
 {
     let mut low = true;
     let mut count: usize = 0;
-    let mut i = at;
-    while i < text.len() {
-        let s = sums::scan(text, i);
-        if !operands::is_whole(s) {
-            return Body::Refused(31);
-        }
-        low = low & (s.most <= 8);
+    let mut part = Some(at);
+    while let Some(place) = part {
+        let sum = operands::whole_sum(text, place).ok_or(LineRefusal::UnknownForm)?;
+        low &= sum.low;
         count += 1;
-        let p = tokens::stop_at(text, i);
-        if !operands::comma_at(text, p) {
-            if !low {
-                return Body::Refused(32);
-            }
-            if two {
-                return Body::Items(true, at, 2 * count);
-            }
-            return Body::Items(false, at, count);
-        }
-        i = p + 1;
+        part = operands::next_part(text, place);
     }
-    Body::Refused(31)
-}
-
-// Whether an operand, if it is there, is low: no more than eight parentheses are open at once.
-fn low_there(there: bool, f: Form) -> bool
-    ensures { result ≡ low_there there f }
-{
-    if there {
-        return match f {
-            Form::Register(..) => true,
-            Form::Memory(_, _, _, low) => low,
-            Form::Value(_, low) => low,
-            Form::NoOperand => true,
-        };
+    if !low {
+        return Err(LineRefusal::TooDeep);
     }
-    true
-}
-
-// Whether all operands are low.
-fn all_low(o: Operands) -> bool
-    ensures { result ≡ row_low o }
-{
-    let first = o.first;
-    let second = o.second;
-    let third = o.third;
-    let a = low_there(0 < o.count, first);
-    let b = low_there(1 < o.count, second);
-    let c = low_there(2 < o.count, third);
-    a & (b & c)
+    let bytes = if two { 2 * count } else { count };
+    Ok(Body::Items {
+        two,
+        place: at,
+        bytes,
+    })
 }
 
 // What a word says with what stands behind it.
-fn worded(text: &[u8], at: usize, word: u64) -> Body
+fn worded(text: &[u8], at: usize, word: u64) -> Result<Body, LineRefusal>
     requires { 1 ≤ at }
     ensures { (name : List ℕ) → NumberIs word name → BodyIs text.now result (statement_of (run name ∷ tokens_of (drop at text.now))) }
 {
@@ -125,28 +89,25 @@ fn worded(text: &[u8], at: usize, word: u64) -> Body
         return items(text, at, true);
     }
     let codes = table::codes_of(word);
-    if codes.0 == table::NONE {
-        return Body::Refused(30);
+    if codes.is_empty() {
+        return Err(LineRefusal::UnknownWord);
     }
-    let o = operands::operands_at(text, at);
-    let code = table::fitting(codes, o);
-    if code == table::NONE {
-        return Body::Refused(31);
+    let operands = operands::operands_at(text, at).ok_or(LineRefusal::UnknownForm)?;
+    let code = table::fitting(codes, operands).ok_or(LineRefusal::UnknownForm)?;
+    if !operands.are_low() {
+        return Err(LineRefusal::TooDeep);
     }
-    if all_low(o) {
-        return Body::Instruction(code, o);
-    }
-    Body::Refused(32)
+    Ok(Body::Instruction { code, operands })
 }
 
 // What stands at a place, behind a label.
-pub fn body(text: &[u8], at: usize) -> Body
+pub fn body(text: &[u8], at: usize) -> Result<Body, LineRefusal>
     ensures { BodyIs text.now result (statement_of (tokens_of (drop at text.now))) }
 {
     match tokens::token_at(text, at) {
-        TokenFound::Nothing => Body::Blank,
-        TokenFound::Mark(..) => Body::Refused(30),
-        TokenFound::Run(from, to) => {
+        None => Ok(Body::Blank),
+        Some(TokenFound::Mark { .. }) => Err(LineRefusal::UnknownWord),
+        Some(TokenFound::Run { from, to }) => {
             let word = table::run_number(&text[from..to]);
             worded(text, to, word)
         }
@@ -158,7 +119,7 @@ pub fn is_reserved(run: &[u8]) -> bool
     ensures { result ≡ is_reserved (capitals run.now) }
 {
     let word = table::run_number(run);
-    let codes = table::codes_of(word);
-    let register = sums::register_number(run);
-    (codes.0 != table::NONE) | ((word == DB) | ((word == DW) | (register < 9)))
+    let is_word = !table::codes_of(word).is_empty();
+    let is_register = sums::register_number(run).is_some();
+    is_word | (word == DB) | (word == DW) | is_register
 }

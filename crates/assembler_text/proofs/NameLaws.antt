@@ -1,25 +1,29 @@
 -- Names and constants character by character, as loops over them go.
 -- Assumes nothing.
-use mathlib.Core.Path.{◌≡◌, refl, sym, ap, ◌∙◌}
-use mathlib.Core.Bool.{Bool, true, false, not, ◌&&◌, ◌||◌}
-use mathlib.Core.List.{List, [], ◌∷◌}
+use mathlib.Core.Path.{◌≡◌, refl, sym, ap, subst, ◌∙◌}
+use mathlib.Core.Bool.{Bool, true, false, cond, not, ◌&&◌, ◌||◌}
+use mathlib.Core.List.{List, [], ◌∷◌, ◌++◌}
 use Prim.Native.Nat.{ℕ, zero, suc, ◌+◌, ◌*◌, ◌-◌, ◌%◌, ◌≤◌, ◌<◌}
 use native.Mathlib.Nat.{mul-le-mul}
 use native.Mathlib.Omega.{arith}
 use lib.Dec.{eqb, ltb, leb}
 use lib.ListN.{length, get_or, take, drop, drop_of_length-le}
-use borrow.Author.Tests.{eqb-true, eq-eqb, ne_eqb, lt-ltb, le-ltb, ltb-true, ltb-false, le-leb, lt-leb}
+use borrow.Author.Tests.{leb-true, eqb-true, eqb-false, ne_eqb, lt-ltb, le-ltb, ltb-true, ltb-false, lt-leb}
 use Rattle.ground_rules.specs.Choice.{pick}
 use Rattle.listing_rules.specs.Characters.{same_text}
-use Rattle.assembly_rules.specs.declared.Constant.{Constant}
-use Rattle.assembly_rules.specs.declared.Constant.TheVariants.{Value, NoConstant}
-use Rattle.assembly_rules.specs.declared.Worth.{Worth}
 use Rattle.assembly_rules.specs.Text.{capital_of, capitals, is_digit, is_run, begun_by, leading_run}
 use Rattle.assembly_rules.specs.Numbers.{digit_value, is_radix, radix_of, last_of, but_last, digits_from, constant_digits, constant_of}
-use Rattle.assembly_rules.specs.Sums.{index_in, register_number, begins_digit, is_value, is_term, label, Label, worth, label_worth}
+use Rattle.assembly_rules.specs.Sums.{index_in, register_number, begins_digit, worth, label_worth}
+use Rattle.assembly_rules.proofs.WritingLaws.{both_left, both_right}
 use Rattle.assembly_rules.proofs.TextLaws.{run_none, run_more}
 use Rattle.assembly_rules.proofs.NumberLaws.{radix-plain}
-use Rattle.assembler_text.specs.Places.{between, name_at, labels_at}
+use Rattle.std.specs.List.{find, zip, list_all}
+use Rattle.std.proofs.lemmas.Option.{none-some, same_Some}
+use Rattle.std.specs.Option.{option_map}
+use Rattle.std.specs.declared.option.Option.TheVariants.{None, Some}
+use Rattle.std.specs.Char.{digit_value as digit_of}
+use Rattle.assembler_text.specs.declared.labels.Labels.{Labels}
+use Rattle.assembler_text.specs.Places.{between, name_at, labels_at, labels_of, address_worth, radix_told, register_told, register_named}
 use Rattle.assembler_text.proofs.PlaceLaws.{from-here, part-some}
 
 -- capitals of what is left
@@ -31,9 +35,47 @@ capitals-none : (cs : List ℕ) (i : ℕ) → length cs ≤ i → capitals (drop
 unfolding capitals
 capitals-none cs i h = ap capitals (drop_of_length-le cs h)
 
+-- a test of each number below some number
+abbrev pub each_below : (ℕ → Bool) → ℕ → Bool
+each_below test zero = true
+each_below test (suc n) = each_below test n && test n
+
+one-below : (test : ℕ → Bool) (n : ℕ) → each_below test n ≡ true → (i : ℕ) → i < n → test i ≡ true
+one-below test zero h i l = absurd (omega arith)
+one-below test (suc n) h i l = go (eqb i n) refl (one-below test n (both_left (each_below test n) (test n) h) i)
+  where
+    go : (b : Bool) → eqb i n ≡ b → (i < n → test i ≡ true) → test i ≡ true
+    go true e lower = rw (eqb-true i n e) (both_right (each_below test n) (test n) h)
+    go false e lower = let d = eqb-false i n e in lower (omega (arith, l, d))
+
+-- a digit as the library has it is one of the rules up to 16
+abbrev pub same_digit : ℕ → Bool
+same_digit c = eqb (digit_value (capital_of c)) (pick (ltb (digit_of c) 16) (digit_of c) 16)
+
+bytes-same : each_below same_digit 256 ≡ true
+unfolding digit_value capital_of is_digit
+bytes-same = refl
+
+digit-same : (c : ℕ) → c < 256 → digit_value (capital_of c) ≡ pick (ltb (digit_of c) 16) (digit_of c) 16
+digit-same c h = eqb-true _ _ (one-below same_digit 256 bytes-same c h)
+
+pub digit-over : (radix c : ℕ) → c < 256 → radix ≤ 16 → (digit_of c < radix → ⊥) → radix ≤ digit_value (capital_of c)
+digit-over radix c b h k = subst (λ (n : ℕ). radix ≤ n) (sym (digit-same c b)) (go (ltb (digit_of c) 16))
+  where
+    over : (x : Bool) → ltb (digit_of c) radix ≡ x → radix ≤ digit_of c
+    over true e = absurd (k (ltb-true (digit_of c) radix e))
+    over false e = ltb-false (digit_of c) radix e
+
+    go : (x : Bool) → radix ≤ pick x (digit_of c) 16
+    go true = over (ltb (digit_of c) radix) refl
+    go false = h
+
+pub digit-under : (radix c : ℕ) → c < 256 → radix ≤ 16 → digit_of c < radix → digit_value (capital_of c) ≡ digit_of c
+digit-under radix c b h k = digit-same c b ∙ rw (lt-ltb (digit_of c) 16 (omega (arith, k, h)))
+
 -- digits read one after the other
 module _ (radix value : ℕ) (cs : List ℕ) (i : ℕ) where
-  pub digits-stop : i < length cs → radix ≤ digit_value (capital_of (get_or cs i 0)) → digits_from radix value (capitals (drop i cs)) ≡ NoConstant
+  pub digits-stop : i < length cs → radix ≤ digit_value (capital_of (get_or cs i 0)) → digits_from radix value (capitals (drop i cs)) ≡ None
   unfolding digits_from
   digits-stop h k = ap (digits_from radix value) (capitals-here cs i h) ∙ rw (le-ltb (digit_value (capital_of (get_or cs i 0))) radix k)
 
@@ -41,119 +83,130 @@ module _ (radix value : ℕ) (cs : List ℕ) (i : ℕ) where
   unfolding digits_from
   digits-next h k = ap (digits_from radix value) (capitals-here cs i h) ∙ rw (lt-ltb (digit_value (capital_of (get_or cs i 0))) radix k)
 
-  pub digits-end : length cs ≤ i → digits_from radix value (capitals (drop i cs)) ≡ Value value
+  pub digits-end : length cs ≤ i → digits_from radix value (capitals (drop i cs)) ≡ Some value
   unfolding digits_from
   digits-end h = ap (digits_from radix value) (capitals-none cs i h)
 
--- a name against the run that characters begin with
-abbrev pub same_from : List ℕ → List ℕ → ℕ → Bool
-same_from chars name i = same_text (leading_run (drop i chars)) (capitals (drop i name))
+-- a name against the run that characters begin with: each character of both, and what stands behind
+abbrev pub same_pair : ℕ × ℕ → Bool
+same_pair p = is_run p.1 && eqb (capital_of p.1) (capital_of p.0)
 
-module _ (chars name : List ℕ) (i : ℕ) where
-  run-here : i < length chars → is_run (get_or chars i 0) ≡ true → leading_run (drop i chars) ≡ capital_of (get_or chars i 0) ∷ leading_run (drop (i + 1) chars)
-  run-here h k = ap leading_run (from-here chars i h) ∙ run_more (get_or chars i 0) (drop (i + 1) chars) k
+abbrev pub run_there : List ℕ → Bool
+run_there [] = false
+run_there (c ∷ cs) = is_run c
 
-  no-run-here : i < length chars → is_run (get_or chars i 0) ≡ false → leading_run (drop i chars) ≡ []
-  no-run-here h k = ap leading_run (from-here chars i h) ∙ run_none (get_or chars i 0) (drop (i + 1) chars) k
+run-over : (chars : List ℕ) (i : ℕ) → length chars ≤ i → leading_run (drop i chars) ≡ []
+unfolding leading_run begun_by
+run-over chars i h = ap leading_run (drop_of_length-le chars h)
 
-  run-over : length chars ≤ i → leading_run (drop i chars) ≡ []
-  unfolding leading_run begun_by
-  run-over h = ap leading_run (drop_of_length-le chars h)
+pub same-name : (chars name : List ℕ) → length name ≤ length chars → same_text (leading_run chars) (capitals name) ≡ list_all same_pair (zip name chars) && not (run_there (drop (length name) chars))
+unfolding same_text capitals
+same-name [] [] l = ap (λ (x : List ℕ). same_text x []) (run-over [] 0 (omega arith))
+same-name (c ∷ chars) [] l = go (is_run c) refl
+  where
+    go : (b : Bool) → is_run c ≡ b → same_text (leading_run (c ∷ chars)) [] ≡ not b
+    go true e = ap (λ (x : List ℕ). same_text x []) (run_more c chars e)
+    go false e = ap (λ (x : List ℕ). same_text x []) (run_none c chars e)
+same-name [] (n ∷ name) l = absurd (omega arith)
+same-name (c ∷ chars) (n ∷ name) l = go (is_run c) refl (same-name chars name (omega arith))
+  where
+    go : (b : Bool) → is_run c ≡ b → same_text (leading_run chars) (capitals name) ≡ list_all same_pair (zip name chars) && not (run_there (drop (length name) chars))
+        → same_text (leading_run (c ∷ chars)) (capital_of n ∷ capitals name) ≡ (b && eqb (capital_of c) (capital_of n) && list_all same_pair (zip name chars)) && not (run_there (drop (length name) chars))
+    go true e later = ap (λ (x : List ℕ). same_text x (capital_of n ∷ capitals name)) (run_more c chars e) ∙ both-again (eqb (capital_of c) (capital_of n)) (list_all same_pair (zip name chars)) (not (run_there (drop (length name) chars))) later
+      where
+        both-again : (x p q : Bool) {a : Bool} → a ≡ p && q → x && a ≡ (x && p) && q
+        both-again true p q h = h
+        both-again false p q h = refl
+    go false e later = ap (λ (x : List ℕ). same_text x (capital_of n ∷ capitals name)) (run_none c chars e)
 
-  pub name-longer : i < length name → leading_run (drop i chars) ≡ [] → same_from chars name i ≡ false
-  unfolding same_text
-  name-longer h k = ap (λ (x : List ℕ). same_text x (capitals (drop i name))) k ∙ ap (same_text []) (capitals-here name i h)
+pub longer-name : (chars name : List ℕ) → length chars < length name → same_text (leading_run chars) (capitals name) ≡ false
+unfolding same_text capitals
+longer-name chars [] l = absurd (omega arith)
+longer-name [] (n ∷ name) l = ap (λ (x : List ℕ). same_text x (capital_of n ∷ capitals name)) (run-over [] 0 (omega arith))
+longer-name (c ∷ chars) (n ∷ name) l = go (is_run c) refl (longer-name chars name (omega arith))
+  where
+    go : (b : Bool) → is_run c ≡ b → same_text (leading_run chars) (capitals name) ≡ false → same_text (leading_run (c ∷ chars)) (capital_of n ∷ capitals name) ≡ false
+    go true e later = ap (λ (x : List ℕ). same_text x (capital_of n ∷ capitals name)) (run_more c chars e) ∙ rw later (never (eqb (capital_of c) (capital_of n)))
+      where
+        never : (x : Bool) → x && false ≡ false
+        never true = refl
+        never false = refl
+    go false e later = ap (λ (x : List ℕ). same_text x (capital_of n ∷ capitals name)) (run_none c chars e)
 
-  pub name-over : i < length name → length chars ≤ i → same_from chars name i ≡ false
-  name-over h k = name-longer h (run-over k)
+pub run-behind : (cs : List ℕ) (i : ℕ) → i < length cs → run_there (drop i cs) ≡ is_run (get_or cs i 0)
+run-behind cs i h = ap run_there (from-here cs i h)
 
-  pub name-no-run : i < length name → i < length chars → is_run (get_or chars i 0) ≡ false → same_from chars name i ≡ false
-  name-no-run h k l = name-longer h (no-run-here k l)
+pub no-run-behind : (cs : List ℕ) (i : ℕ) → length cs ≤ i → run_there (drop i cs) ≡ false
+no-run-behind cs i h = ap run_there (drop_of_length-le cs h)
 
-  both-here : i < length name → i < length chars → is_run (get_or chars i 0) ≡ true → same_from chars name i ≡ eqb (capital_of (get_or chars i 0)) (capital_of (get_or name i 0)) && same_from chars name (i + 1)
-  unfolding same_text
-  both-here h k l = ap (λ (x : List ℕ). same_text x (capitals (drop i name))) (run-here k l) ∙ ap (same_text (capital_of (get_or chars i 0) ∷ leading_run (drop (i + 1) chars))) (capitals-here name i h)
+-- the first label with a name
+abbrev pub has_name : List ℕ → List ℕ → ℕ × ℕ → Bool
+has_name text name l = same_text (name_at text l.0) name
 
-  pub name-differs : i < length name → i < length chars → is_run (get_or chars i 0) ≡ true → (capital_of (get_or chars i 0) ≡ capital_of (get_or name i 0) → ⊥) → same_from chars name i ≡ false
-  name-differs h k l d = both-here h k l ∙ rw (ne_eqb (capital_of (get_or chars i 0)) (capital_of (get_or name i 0)) d)
+label-found : (text places addresses name : List ℕ) → address_worth (option_map (λ (l : ℕ × ℕ). l.1) (find (has_name text name) (zip places addresses))) ≡ label_worth (labels_at text places addresses) name
+unfolding labels_at label_worth address_worth
+label-found text [] addresses name = refl
+label-found text (p ∷ places) [] name = refl
+label-found text (p ∷ places) (a ∷ addresses) name = go (has_name text name (p, a)) (label-found text places addresses name)
+  where
+    go : (b : Bool) → address_worth (option_map (λ (l : ℕ × ℕ). l.1) (find (has_name text name) (zip places addresses))) ≡ label_worth (labels_at text places addresses) name
+        → address_worth (option_map (λ (l : ℕ × ℕ). l.1) (cond b (Some (p, a)) (find (has_name text name) (zip places addresses)))) ≡ pick b (worth a true) (label_worth (labels_at text places addresses) name)
+    go true later = refl
+    go false later = later
 
-  pub name-goes : i < length name → i < length chars → is_run (get_or chars i 0) ≡ true → capital_of (get_or chars i 0) ≡ capital_of (get_or name i 0) → same_from chars name i ≡ same_from chars name (i + 1)
-  name-goes h k l d = both-here h k l ∙ rw (eq-eqb (capital_of (get_or chars i 0)) (capital_of (get_or name i 0)) d)
+pub label-first : (text name : List ℕ) (labels : Labels) → address_worth (option_map (λ (l : ℕ × ℕ). l.1) (find (has_name text name) (zip labels.places.now labels.addresses.now))) ≡ label_worth (labels_of text labels) name
+label-first text name labels = label-found text labels.places.now labels.addresses.now name
 
-  pub name-ended : length name ≤ i → i < length chars → same_from chars name i ≡ not (is_run (get_or chars i 0))
-  unfolding same_text
-  name-ended h k = ap (same_text (leading_run (drop i chars))) (capitals-none name i h) ∙ go (is_run (get_or chars i 0)) refl
-    where
-      go : (b : Bool) → is_run (get_or chars i 0) ≡ b → same_text (leading_run (drop i chars)) [] ≡ not b
-      go true l = ap (λ (x : List ℕ). same_text x []) (run-here k l)
-      go false l = ap (λ (x : List ℕ). same_text x []) (no-run-here k l)
-
-  pub both-ended : length name ≤ i → length chars ≤ i → same_from chars name i ≡ true
-  unfolding same_text
-  both-ended h k = ap (same_text (leading_run (drop i chars))) (capitals-none name i h) ∙ ap (λ (x : List ℕ). same_text x []) (run-over k)
-
--- labels one after the other
-abbrev pub worth_from : List ℕ → List ℕ → List ℕ → List ℕ → ℕ → Worth
-worth_from text places addresses name i = label_worth (labels_at text (drop i places) (drop i addresses)) name
-
-module _ (text places addresses name : List ℕ) (i : ℕ) where
-  places-here : i < length places → i < length addresses → labels_at text (drop i places) (drop i addresses) ≡ label (name_at text (get_or places i 0)) (get_or addresses i 0) ∷ labels_at text (drop (i + 1) places) (drop (i + 1) addresses)
-  unfolding labels_at
-  places-here h k = ap (λ (x : List ℕ). labels_at text x (drop i addresses)) (from-here places i h) ∙ ap (labels_at text (get_or places i 0 ∷ drop (i + 1) places)) (from-here addresses i k)
-
-  pub label-over : i < length places → length addresses ≤ i → worth_from text places addresses name i ≡ worth 0 false
-  unfolding labels_at label_worth
-  label-over h k = ap (λ (x : List ℕ). label_worth (labels_at text x (drop i addresses)) name) (from-here places i h) ∙ ap (λ (x : List ℕ). label_worth (labels_at text (get_or places i 0 ∷ drop (i + 1) places) x) name) (drop_of_length-le addresses k)
-
-  pub label-none : length places ≤ i → worth_from text places addresses name i ≡ worth 0 false
-  unfolding labels_at label_worth
-  label-none h = ap (λ (x : List ℕ). label_worth (labels_at text x (drop i addresses)) name) (drop_of_length-le places h)
-
-  pub label_is : i < length places → i < length addresses → same_text (name_at text (get_or places i 0)) name ≡ true → worth_from text places addresses name i ≡ worth (get_or addresses i 0) true
-  unfolding label_worth
-  label_is h k e = ap (λ (x : List Label). label_worth x name) (places-here h k) ∙ rw e
-
-  pub label-next : i < length places → i < length addresses → same_text (name_at text (get_or places i 0)) name ≡ false → worth_from text places addresses name i ≡ worth_from text places addresses name (i + 1)
-  unfolding label_worth
-  label-next h k e = ap (λ (x : List Label). label_worth x name) (places-here h k) ∙ rw e
-
--- a run's last character
-last-at : (cs : List ℕ) (n : ℕ) → length cs ≡ n + 1 → (last_of (capitals cs) ≡ capital_of (get_or cs n 0)) × (but_last (capitals cs) ≡ capitals (take n cs))
+-- a run's last character, and those before it
+last-behind : (front : List ℕ) (c : ℕ) → (last_of (capitals (front ++ (c ∷ []))) ≡ capital_of c) × (but_last (capitals (front ++ (c ∷ []))) ≡ capitals front)
 unfolding capitals last_of but_last
-last-at [] n e = absurd (omega arith)
-last-at (c ∷ []) zero e = (refl, refl)
-last-at (c ∷ []) (suc n) e = absurd (omega arith)
-last-at (c ∷ d ∷ cs) zero e = absurd (omega arith)
-last-at (c ∷ d ∷ cs) (suc n) e = let later = last-at (d ∷ cs) n (omega arith) in (later.0, ap (λ (x : List ℕ). capital_of c ∷ x) later.1)
+last-behind [] c = (refl, refl)
+last-behind (a ∷ []) c = (refl, refl)
+last-behind (a ∷ b ∷ front) c = let later = last-behind (b ∷ front) c in (later.0, ap (λ (x : List ℕ). capital_of a ∷ x) later.1)
 
 -- the constant of a run with a letter for its radix, and of one without
-pub constant-lettered : (cs : List ℕ) (n : ℕ) → length cs ≡ n + 1 → is_radix (capital_of (get_or cs n 0)) ≡ true → constant_of (capitals cs) ≡ digits_from (radix_of (capital_of (get_or cs n 0))) 0 (capitals (take n cs))
+pub constant-lettered : (cs front : List ℕ) (c : ℕ) → cs ≡ front ++ (c ∷ []) → is_radix (capital_of c) ≡ true → constant_of (capitals cs) ≡ digits_from (radix_of (capital_of c)) 0 (capitals front)
 unfolding constant_of constant_digits
-constant-lettered cs n e h = let l = last-at cs n e in rw (l.0, h, l.1)
+constant-lettered cs front c e h = let l = last-behind front c in rw (e, l.0, h, l.1)
 
-pub constant-plain : (cs : List ℕ) (n : ℕ) → length cs ≡ n + 1 → is_radix (capital_of (get_or cs n 0)) ≡ false → constant_of (capitals cs) ≡ digits_from 10 0 (capitals cs)
+pub constant-plain : (cs front : List ℕ) (c : ℕ) → cs ≡ front ++ (c ∷ []) → is_radix (capital_of c) ≡ false → constant_of (capitals cs) ≡ digits_from 10 0 (capitals cs)
 unfolding constant_of constant_digits
-constant-plain cs n e h = let l = last-at cs n e in rw (l.0, h, radix-plain (capital_of (get_or cs n 0)) h)
+constant-plain cs front c e h = let l = last-behind front c in ap (λ (x : List ℕ). constant_of (capitals x)) e ∙ rw (l.0, h, radix-plain (capital_of c) h) (ap (λ (x : List ℕ). digits_from 10 0 (capitals x)) (sym e))
 
-pub constant-empty : (cs : List ℕ) → length cs ≡ 0 → constant_of (capitals cs) ≡ Value 0
+pub constant-empty : (cs : List ℕ) → length cs ≡ 0 → constant_of (capitals cs) ≡ Some 0
 unfolding constant_of constant_digits last_of but_last capitals digits_from is_radix
 constant-empty [] e = refl
 constant-empty (c ∷ cs) e = absurd (omega arith)
+
+-- a radix that is told, by the letter that tells it
+pub radix_some : (c r : ℕ) → Some r ≡ radix_told c → (is_radix c ≡ true) × (r ≡ radix_of c)
+radix_some c r e = go (is_radix c) refl e
+  where
+    go : (b : Bool) → is_radix c ≡ b → Some r ≡ pick b (Some (radix_of c)) None → (is_radix c ≡ true) × (r ≡ radix_of c)
+    go true h k = (h, same_Some _ _ k)
+    go false h k = absurd (none-some _ (sym k))
+
+pub radix_none : (c : ℕ) → None ≡ radix_told c → is_radix c ≡ false
+radix_none c e = go (is_radix c) refl e
+  where
+    go : (b : Bool) → is_radix c ≡ b → None ≡ pick b (Some (radix_of c)) None → is_radix c ≡ false
+    go true h k = absurd (none-some _ k)
+    go false h k = h
 
 -- a value and a radix multiplied stay small
 pub times-small : (v r : ℕ) → v < 65536 → r ≤ 16 → v * r ≤ 1048560
 times-small v r h k = let l : v ≤ 65535 = omega arith in mul-le-mul l k
 
--- the radix is at most 16
-pub radix-most : (c : ℕ) → radix_of c ≤ 16
+-- the radix is 2 at least and 16 at most
+pub radix-within : (c : ℕ) → (2 ≤ radix_of c) × (radix_of c ≤ 16)
 unfolding radix_of
-radix-most c = go (eqb c 66) (eqb c 79 || eqb c 81) (eqb c 72)
+radix-within c = go (eqb c 66) (eqb c 79 || eqb c 81) (eqb c 72)
   where
-    go : (a b d : Bool) → pick a 2 (pick b 8 (pick d 16 10)) ≤ 16
-    go true b d = omega arith
-    go false true d = omega arith
-    go false false true = omega arith
-    go false false false = omega arith
+    go : (a b d : Bool) → (2 ≤ pick a 2 (pick b 8 (pick d 16 10))) × (pick a 2 (pick b 8 (pick d 16 10)) ≤ 16)
+    go true b d = (omega arith, omega arith)
+    go false true d = (omega arith, omega arith)
+    go false false true = (omega arith, omega arith)
+    go false false false = (omega arith, omega arith)
 
 no_name : (name : List ℕ) → same_text [] (capitals name) ≡ eqb (length name) 0
 unfolding same_text capitals
@@ -163,7 +216,7 @@ no_name (c ∷ name) = sym (ne_eqb (length (c ∷ name)) 0 (λ e. omega arith))
 -- a label past the text has no name
 pub name-nowhere : (text : List ℕ) (place : ℕ) (name : List ℕ) → length text < place → eqb (length name) 0 ≡ same_text (name_at text place) (capitals name)
 unfolding name_at
-name-nowhere text place name h = sym (ap (λ (x : List ℕ). same_text x (capitals name)) (run-over text name place (omega arith)) ∙ no_name name)
+name-nowhere text place name h = sym (ap (λ (x : List ℕ). same_text x (capitals name)) (run-over text place (omega arith)) ∙ no_name name)
 
 -- registers are named by two letters
 no-two : (t : List ℕ) → (length t ≡ 2 → ⊥) → (x y : ℕ) → same_text (x ∷ y ∷ []) t ≡ false
@@ -187,56 +240,57 @@ unfolding capitals
 capitals-length [] = refl
 capitals-length (c ∷ cs) = ap suc (capitals-length cs)
 
-pub register-length : (cs : List ℕ) → (length cs ≡ 2 → ⊥) → register_number (capitals cs) ≡ 9
+pub register-length : (cs : List ℕ) → (length cs ≡ 2 → ⊥) → register_named (capitals cs) ≡ None
 unfolding register_number index_in
-register-length cs h = simp (no-two (capitals cs) (λ e. h (sym (capitals-length cs) ∙ e)))
+register-length cs h = let e : register_number (capitals cs) ≡ 9 = simp (no-two (capitals cs) (λ e. h (sym (capitals-length cs) ∙ e))) in ap register_told e
 
-two-capitals : (cs : List ℕ) → length cs ≡ 2 → capitals cs ≡ capital_of (get_or cs 0 0) ∷ capital_of (get_or cs 1 0) ∷ []
+pub two_capitals : (cs : List ℕ) → length cs ≡ 2 → capitals cs ≡ capital_of (get_or cs 0 0) ∷ capital_of (get_or cs 1 0) ∷ []
 unfolding capitals
-two-capitals [] e = absurd (omega arith)
-two-capitals (a ∷ []) e = absurd (omega arith)
-two-capitals (a ∷ b ∷ []) e = refl
-two-capitals (a ∷ b ∷ d ∷ cs) e = absurd (omega arith)
+two_capitals [] e = absurd (omega arith)
+two_capitals (a ∷ []) e = absurd (omega arith)
+two_capitals (a ∷ b ∷ []) e = refl
+two_capitals (a ∷ b ∷ d ∷ cs) e = absurd (omega arith)
 
--- two letters in one number
-pub register-key : (cs : List ℕ) (a b x y : ℕ) → length cs ≡ 2 → a ≡ capital_of (get_or cs 0 0) → b ≡ capital_of (get_or cs 1 0) → b < 256 → y < 256 → a * 256 + b ≡ x * 256 + y → register_number (capitals cs) ≡ register_number (x ∷ y ∷ [])
-register-key cs a b x y e f g h k n =
-    let p : a ≡ x = omega arith in
-    let q : b ≡ y = omega arith in
-    ap register_number (two-capitals cs e) ∙ rw (← f, ← g, p, q)
-
-other-two : (a b : ℕ) (x y : ℕ) → (a * 256 + b ≡ x * 256 + y → ⊥) → same_text (x ∷ y ∷ []) (a ∷ b ∷ []) ≡ false
+-- and by none that begins with another letter
+other-first : (x y a b : ℕ) → (a ≡ x → ⊥) → same_text (x ∷ y ∷ []) (a ∷ b ∷ []) ≡ false
 unfolding same_text
-other-two a b x y h = go (eqb x a) refl (eqb y b) refl
-  where
-    go : (p : Bool) → eqb x a ≡ p → (q : Bool) → eqb y b ≡ q → p && (q && true) ≡ false
-    go true e true f = let i = eqb-true x a e in let j = eqb-true y b f in absurd (h (omega arith))
-    go true e false f = refl
-    go false e q f = refl
+other-first x y a b h = rw (ne_eqb x a (λ e. h (sym e)))
 
 pub register-none : (cs : List ℕ) (a b : ℕ) → length cs ≡ 2 → a ≡ capital_of (get_or cs 0 0) → b ≡ capital_of (get_or cs 1 0)
-    → (a * 256 + b ≡ 0x4741 → ⊥) → (a * 256 + b ≡ 0x4742 → ⊥) → (a * 256 + b ≡ 0x4743 → ⊥) → (a * 256 + b ≡ 0x4243 → ⊥) → (a * 256 + b ≡ 0x5450 → ⊥) → (a * 256 + b ≡ 0x4958 → ⊥) → (a * 256 + b ≡ 0x4343 → ⊥) → (a * 256 + b ≡ 0x4D43 → ⊥) → (a * 256 + b ≡ 0x5050 → ⊥)
-    → register_number (capitals cs) ≡ 9
+    → (a ≡ 0x47 → ⊥) → (a ≡ 0x42 → ⊥) → (a ≡ 0x54 → ⊥) → (a ≡ 0x49 → ⊥) → (a ≡ 0x43 → ⊥) → (a ≡ 0x4D → ⊥) → (a ≡ 0x50 → ⊥) → register_named (capitals cs) ≡ None
 unfolding register_number index_in
-register-none cs a b e f g h0 h1 h2 h3 h4 h5 h6 h7 h8 =
-    let t : capitals cs ≡ a ∷ b ∷ [] = two-capitals cs e ∙ rw (← f, ← g) in
-    ap register_number t
-    ∙ rw (other-two a b 0x47 0x41 h0, other-two a b 0x47 0x42 h1, other-two a b 0x47 0x43 h2, other-two a b 0x42 0x43 h3, other-two a b 0x54 0x50 h4, other-two a b 0x49 0x58 h5, other-two a b 0x43 0x43 h6, other-two a b 0x4D 0x43 h7, other-two a b 0x50 0x50 h8)
+register-none cs a b e f g h0 h1 h2 h3 h4 h5 h6 =
+    let t : capitals cs ≡ a ∷ b ∷ [] = two_capitals cs e ∙ rw (← f, ← g) in
+    ap register_named t
+    ∙ rw (other-first 0x47 0x41 a b h0, other-first 0x47 0x42 a b h0, other-first 0x47 0x43 a b h0, other-first 0x42 0x43 a b h1, other-first 0x54 0x50 a b h2, other-first 0x49 0x58 a b h3, other-first 0x43 0x43 a b h4, other-first 0x4D 0x43 a b h5, other-first 0x50 0x50 a b h6)
 
-pub registers-told :
-    (register_number (0x47 ∷ 0x41 ∷ []) ≡ 0) × (register_number (0x47 ∷ 0x42 ∷ []) ≡ 1) × (register_number (0x47 ∷ 0x43 ∷ []) ≡ 2) × (register_number (0x42 ∷ 0x43 ∷ []) ≡ 3) × (register_number (0x54 ∷ 0x50 ∷ []) ≡ 4)
-    × (register_number (0x49 ∷ 0x58 ∷ []) ≡ 5) × (register_number (0x43 ∷ 0x43 ∷ []) ≡ 6) × (register_number (0x4D ∷ 0x43 ∷ []) ≡ 7) × (register_number (0x50 ∷ 0x50 ∷ []) ≡ 8)
-unfolding register_number index_in same_text
-registers-told = (refl, refl, refl, refl, refl, refl, refl, refl, refl)
+-- a digit is no letter
+digit-capital : (c : ℕ) → is_digit (capital_of c) ≡ is_digit c
+unfolding is_digit capital_of
+digit-capital c = go (leb 97 c && leb c 122) refl
+  where
+    go : (b : Bool) → leb 97 c && leb c 122 ≡ b → leb 48 (pick b (c - 32) c) && leb (pick b (c - 32) c) 57 ≡ leb 48 c && leb c 57
+    go true e =
+        let l = leb-true 97 c (both_left (leb 97 c) (leb c 122) e) in
+        rw (lt-leb (c - 32) 57 (omega arith), lt-leb c 57 (omega arith)) (ends (leb 48 (c - 32)) (leb 48 c))
+      where
+        ends : (x y : Bool) → x && false ≡ y && false
+        ends true true = refl
+        ends true false = refl
+        ends false true = refl
+        ends false false = refl
+    go false e = refl
 
--- what a run is in a sum
-first-capital : (cs : List ℕ) → 0 < length cs → get_or (capitals cs) 0 0 ≡ capital_of (get_or cs 0 0)
+-- what a run begins with
+pub begins-digit : (cs : List ℕ) → 0 < length cs → begins_digit (capitals cs) ≡ is_digit (get_or cs 0 0)
 unfolding capitals
-first-capital [] h = absurd (omega arith)
-first-capital (c ∷ cs) h = refl
+begins-digit [] h = absurd (omega arith)
+begins-digit (c ∷ cs) h = digit-capital c
 
-pub begins-digit : (cs : List ℕ) (b : Bool) → 0 < length cs → is_digit (capital_of (get_or cs 0 0)) ≡ b → begins_digit (capitals cs) ≡ b
-begins-digit cs b h e = ap is_digit (first-capital cs h) ∙ e
+pub begins-none : (cs : List ℕ) → length cs ≤ 0 → begins_digit (capitals cs) ≡ false
+unfolding capitals is_digit
+begins-none [] h = refl
+begins-none (c ∷ cs) h = absurd (omega arith)
 
 -- the same of a part of a text
 part-first : (n : ℕ) (text : List ℕ) (from : ℕ) → 0 < n → from < length text → get_or (take n (drop from text)) 0 0 ≡ get_or text from 0
@@ -244,24 +298,4 @@ part-first zero text from h l = absurd (omega arith)
 part-first (suc n) text from h l = ap (λ (x : List ℕ). get_or (take (suc n) x) 0 0) (from-here text from l)
 
 pub part-digit : (text : List ℕ) (from to : ℕ) (b : Bool) → from < to → to ≤ length text → is_digit (capital_of (get_or text from 0)) ≡ b → begins_digit (capitals (between text from to)) ≡ b
-part-digit text from to b h k e = begins-digit (between text from to) b (part-some text from to h k) (ap (λ (c : ℕ). is_digit (capital_of c)) (part-first (to - from) text from (omega arith) (omega arith)) ∙ e)
-
-pub term-empty : (cs : List ℕ) → length cs ≡ 0 → is_term (capitals cs) ≡ true
-unfolding is_term capitals is_digit register_number index_in same_text
-term-empty [] e = refl
-term-empty (c ∷ cs) e = absurd (omega arith)
-
-pub term-constant : (cs : List ℕ) (k : Constant) → 0 < length cs → is_digit (capital_of (get_or cs 0 0)) ≡ true → constant_of (capitals cs) ≡ k → is_term (capitals cs) ≡ is_value k
-unfolding is_term
-term-constant cs k h d e = rw (begins-digit cs true h d, e)
-
-pub term-name : (cs : List ℕ) → 0 < length cs → is_digit (capital_of (get_or cs 0 0)) ≡ false → is_term (capitals cs) ≡ leb 9 (register_number (capitals cs))
-unfolding is_term
-term-name cs h d = rw (begins-digit cs false h d) (over (register_number (capitals cs)))
-  where
-    over : (n : ℕ) → not (ltb n 9) ≡ leb 9 n
-    over n = go (ltb n 9) refl
-      where
-        go : (b : Bool) → ltb n 9 ≡ b → not b ≡ leb 9 n
-        go true e = let l = ltb-true n 9 e in sym (lt-leb 9 n l)
-        go false e = let l = ltb-false n 9 e in sym (le-leb 9 n l)
+part-digit text from to b h k e = begins-digit (between text from to) (part-some text from to h k) ∙ sym (digit-capital (get_or (between text from to) 0 0)) ∙ ap (λ (c : ℕ). is_digit (capital_of c)) (part-first (to - from) text from (omega arith) (omega arith)) ∙ e

@@ -1,7 +1,7 @@
 -- Places in a text and the tokens there: how far a run of characters goes, and which token stands at a place.
 -- Assumes nothing.
 use mathlib.Core.Path.{◌≡◌, refl, sym, ap, subst, ◌∙◌}
-use mathlib.Core.Bool.{Bool, true, false, not, ◌&&◌, ◌||◌, false≢true}
+use mathlib.Core.Bool.{Bool, true, false, ◌&&◌, ◌||◌, false≢true}
 use mathlib.Core.List.{List, [], ◌∷◌}
 use Prim.Native.Nat.{ℕ, suc, ◌+◌, ◌-◌, ◌≤◌, ◌<◌}
 use native.Mathlib.Nat.{add-zero}
@@ -10,21 +10,23 @@ use native.Mathlib.Omega.{arith}
 use lib.Dec.{eqb, leb}
 use lib.ListN.{length, get_or, take, drop, drop_of_length-le, length-drop}
 use lib.Seq.{length-take-le, drop-cons, drop-drop, get_or-drop}
-use borrow.Author.Tests.{eqb-true, eqb-false, leb-true, leb-false, le-leb, lt-leb}
+use borrow.Author.Tests.{eqb-true, leb-true, leb-false}
 use Rattle.ground_rules.specs.Choice.{pick}
 use Rattle.assembly_rules.specs.declared.Role.{Role}
 use Rattle.assembly_rules.specs.declared.Role.TheVariants.{Term, Plus, Minus, Opens, Closes, Other}
 use Rattle.assembly_rules.specs.declared.Scan.{Scan}
 use Rattle.assembly_rules.specs.Text.{capital_of, capitals, is_run, is_blank, ends_line, Token, begun_by, tokens_of, leading_run, before_comma}
 use Rattle.assembly_rules.specs.Text.Token.{run, mark}
-use Rattle.assembly_rules.specs.Sums.{is_term, mark_role, role_of, greater, scan, no_sum, minus?, opens?, scanned, scan_from, is_sign, begins_sign, begins_minus, first_sign, past_minus}
+use Rattle.assembly_rules.specs.Sums.{is_term, mark_role, role_of, scanned, scan_from, is_sign, begins_sign, begins_minus, first_sign, past_minus}
 use Rattle.assembly_rules.proofs.TextLaws.{tokens-blank, tokens-end, tokens-mark, run_none, run_more, rest_more, no_run}
-use Rattle.assembler_text.specs.declared.tokens.TokenFound.{TokenFound}
-use Rattle.assembler_text.specs.declared.tokens.TokenFound.TheVariants.{Nothing, Run, Mark}
-use Rattle.assembler_text.specs.declared.sums.Ahead.{Ahead}
-use Rattle.assembler_text.specs.declared.sums.Ahead.TheVariants.{Stop, Next}
+use Rattle.std.proofs.lemmas.Option.{none-some, some_pair_parts}
+use Rattle.std.specs.declared.option.Option.{Option}
+use Rattle.std.specs.declared.option.Option.TheVariants.{None, Some}
+use Rattle.assembler_text.specs.declared.tokens.TokenFound.{TokenFound as Found}
+use Rattle.assembler_text.specs.declared.tokens.TokenFound.TheVariants.{Run, Mark}
 use Rattle.assembler_text.specs.declared.values.Sign.{Sign}
-use Rattle.assembler_text.specs.Places.{leading, past_blanks, run_end, between, token_from, token_at, ahead_by, role_at, sign, sign_by, sign_at, lead_at, name_at}
+use Rattle.assembler_text.specs.declared.values.Sign.TheVariants as sign
+use Rattle.assembler_text.specs.Places.{leading, past_blanks, run_end, between, token_from, token_at, ahead_by, role_at, mark_of, sign_by, sign_at, lead_by, lead_at, name_at}
 
 -- the characters from a place on: the one there, and those behind it
 pub from-here : (s : List ℕ) (i : ℕ) → i < length s → drop i s ≡ get_or s i 0 ∷ drop (i + 1) s
@@ -94,16 +96,16 @@ run-lead (c ∷ cs) = go (is_run c) refl (run-lead cs)
     go false e later = let n = run_none c cs e in (n, no_run (c ∷ cs) n)
 
 -- a token that was found, with those behind it
-unfoldable pub told : List ℕ → TokenFound → List Token
-told text Nothing = []
-told text (Run from to) = run (capitals (between text from to)) ∷ tokens_of (drop to text)
-told text (Mark c next) = mark c ∷ tokens_of (drop next text)
+unfoldable pub told : List ℕ → Option Found → List Token
+told text None = []
+told text (Some (Run from to)) = run (capitals (between text from to)) ∷ tokens_of (drop to text)
+told text (Some (Mark c next)) = mark c ∷ tokens_of (drop next text)
 
 -- it lies in the text, from a place on
-unfoldable pub Lies : List ℕ → ℕ → TokenFound → Type 0
-Lies text at Nothing = Unit
-Lies text at (Run from to) = (at ≤ from) × (from < to) × (to ≤ length text) × (to ≡ run_end text from)
-Lies text at (Mark c next) = (at < next) × (next ≤ length text)
+unfoldable pub Lies : List ℕ → ℕ → Option Found → Type 0
+Lies text at None = Unit
+Lies text at (Some (Run from to)) = (at ≤ from) × (from < to) × (to ≤ length text) × (to ≡ run_end text from)
+Lies text at (Some (Mark c next)) = (at < next) × (next ≤ length text)
 
 -- some characters behind others are those of a part
 part-take : (from n : ℕ) (text : List ℕ) → between text from (from + n) ≡ take n (drop from text)
@@ -128,7 +130,7 @@ module _ (text : List ℕ) (from : ℕ) (inside : from < length text) where
   here : drop from text ≡ get_or text from 0 ∷ drop (from + 1) text
   here = from-here text from inside
 
-  run-there : is_run (get_or text from 0) ≡ true → (tokens_of (drop from text) ≡ told text (Run from (run_end text from))) × Lies text from (Run from (run_end text from))
+  run-there : is_run (get_or text from 0) ≡ true → (tokens_of (drop from text) ≡ told text (Some (Run from (run_end text from)))) × Lies text from (Some (Run from (run_end text from)))
   unfolding told Lies run_end
   run-there h =
       let cs = drop from text in
@@ -140,7 +142,7 @@ module _ (text : List ℕ) (from : ℕ) (inside : from < length text) where
         (omega arith, omega (arith, run-some cs g l), omega (arith, lead-most is_run cs, length-drop from text), refl),
       )
 
-  mark-there : is_run (get_or text from 0) ≡ false → ends_line (get_or text from 0) ≡ false → is_blank (get_or text from 0) ≡ false → tokens_of (drop from text) ≡ told text (Mark (get_or text from 0) (from + 1))
+  mark-there : is_run (get_or text from 0) ≡ false → ends_line (get_or text from 0) ≡ false → is_blank (get_or text from 0) ≡ false → tokens_of (drop from text) ≡ told text (Some (Mark (get_or text from 0) (from + 1)))
   unfolding told
   mark-there h k l = ap tokens_of here ∙ tokens-mark (get_or text from 0) (drop (from + 1) text) h k l
 
@@ -153,7 +155,7 @@ unfolding name_at run_end
 run-name text from to e = (run-lead (drop from text)).0 ∙ ap capitals (sym (part-take from (leading is_run (drop from text)) text)) ∙ ap (λ (n : ℕ). capitals (between text from n)) (sym e)
 
 -- a token at a place: with those behind it they are the tokens from the place on, and it lies in the text
-pub record Stands (text : List ℕ) (at : ℕ) (f : TokenFound) : Type 0 where
+pub record Stands (text : List ℕ) (at : ℕ) (f : Option Found) : Type 0 where
   pub tokens : tokens_of (drop at text) ≡ told text f
   pub lies : Lies text at f
 
@@ -165,7 +167,7 @@ unfolding token_from told Lies
 stands_from text from plain = go (leb (length text) from) refl (is_run (get_or text from 0)) refl (ends_line (get_or text from 0)) refl
   where
     go : (a : Bool) → leb (length text) from ≡ a → (b : Bool) → is_run (get_or text from 0) ≡ b → (d : Bool) → ends_line (get_or text from 0) ≡ d
-        → Stands text from (pick a Nothing (pick b (Run from (run_end text from)) (pick d Nothing (Mark (get_or text from 0) (from + 1)))))
+        → Stands text from (pick a None (pick b (Some (Run from (run_end text from))) (pick d None (Some (Mark (get_or text from 0) (from + 1))))))
     go true p b q d r = record { tokens = no-tokens text from (leb-true (length text) from p); lies = tt }
     go false p true q d r = let s = run-there text from (leb-false (length text) from p) q in record { tokens = s.0; lies = s.1 }
     go false p false q true r = record { tokens = end-there text from (leb-false (length text) from p) q r; lies = tt }
@@ -174,11 +176,11 @@ stands_from text from plain = go (leb (length text) from) refl (is_run (get_or t
         record { tokens = mark-there text from l q r (plain l); lies = (omega arith, omega arith) }
 
 -- a token found from a later place lies behind an earlier one too
-lies-before : (text : List ℕ) (at from : ℕ) (f : TokenFound) → at ≤ from → Lies text from f → Lies text at f
+lies-before : (text : List ℕ) (at from : ℕ) (f : Option Found) → at ≤ from → Lies text from f → Lies text at f
 unfolding Lies
-lies-before text at from Nothing l h = tt
-lies-before text at from (Run a b) l h = (omega (arith, h.0), h.1, h.2, h.3)
-lies-before text at from (Mark c next) l h = (omega (arith, h.0), h.1)
+lies-before text at from None l h = tt
+lies-before text at from (Some (Run a b)) l h = (omega (arith, h.0), h.1, h.2, h.3)
+lies-before text at from (Some (Mark c next)) l h = (omega (arith, h.0), h.1)
 
 -- the token at a place
 pub stands : (text : List ℕ) (at : ℕ) → Stands text at (token_at text at)
@@ -197,74 +199,32 @@ chosen b x y h = rw h
 pub passed : {A : Type 0} (b : Bool) (x y : A) → b ≡ false → pick b x y ≡ y
 passed b x y h = rw h
 
--- which token is found, by what the code tests; `from` is the place of the next character that is no blank
-module _ (text : List ℕ) (at from : ℕ) (e : from ≡ past_blanks text at) where
-  pub found_none : length text ≤ from → token_at text at ≡ Nothing
-  unfolding token_at token_from
-  found_none h = rw (← e, le-leb (length text) from h)
-
-  pub found-run : from < length text → is_run (get_or text from 0) ≡ true → (to : ℕ) → to ≡ run_end text from → token_at text at ≡ Run from to
-  unfolding token_at token_from
-  found-run h k to f = rw (← e, lt-leb (length text) from h, k, f)
-
-  pub found-end : from < length text → is_run (get_or text from 0) ≡ false → ends_line (get_or text from 0) ≡ true → token_at text at ≡ Nothing
-  unfolding token_at token_from
-  found-end h k l = rw (← e, lt-leb (length text) from h, k, l)
-
-  pub found-mark : from < length text → is_run (get_or text from 0) ≡ false → ends_line (get_or text from 0) ≡ false → token_at text at ≡ Mark (get_or text from 0) (from + 1)
-  unfolding token_at token_from
-  found-mark h k l = rw (← e, lt-leb (length text) from h, k, l)
-
--- what a token that was found is in a sum, and where it lies
+-- where a token that was found lies, and which tokens stand there
 module _ (text : List ℕ) (at : ℕ) where
-  pub part_none : token_at text at ≡ Nothing → role_at text at ≡ Stop
-  unfolding role_at
-  part_none e = ap (ahead_by text) e
-
-  pub part-run : (from to : ℕ) → token_at text at ≡ Run from to → (b : Bool) → is_term (capitals (between text from to)) ≡ b → role_at text at ≡ pick b (Next Term to) (Next Other to)
-  unfolding role_at
-  part-run from to e b h = ap (ahead_by text) e ∙ rw h
-
-  pub part-mark : (c next : ℕ) → token_at text at ≡ Mark c next → (b : Bool) → eqb c 44 ≡ b → role_at text at ≡ pick b Stop (Next (mark_role c) next)
-  unfolding role_at
-  part-mark c next e b h = ap (ahead_by text) e ∙ rw h
-
-  pub run_lies : (from to : ℕ) → token_at text at ≡ Run from to → (at ≤ from) × (from < to) × (to ≤ length text) × (to ≡ run_end text from)
+  pub run_lies : (from to : ℕ) → token_at text at ≡ Some (Run from to) → (at ≤ from) × (from < to) × (to ≤ length text) × (to ≡ run_end text from)
   unfolding Lies
   run_lies from to e = subst (Lies text at) e (stands text at).lies
 
-  pub mark-lies : (c next : ℕ) → token_at text at ≡ Mark c next → (at < next) × (next ≤ length text)
+  pub mark-lies : (c next : ℕ) → token_at text at ≡ Some (Mark c next) → (at < next) × (next ≤ length text)
   unfolding Lies
   mark-lies c next e = subst (Lies text at) e (stands text at).lies
 
-  pub no-tokens-there : token_at text at ≡ Nothing → tokens_of (drop at text) ≡ []
+  pub no-tokens-there : token_at text at ≡ None → tokens_of (drop at text) ≡ []
   unfolding told
   no-tokens-there e = (stands text at).tokens ∙ ap (told text) e
 
-  pub run-tokens : (from to : ℕ) → token_at text at ≡ Run from to → tokens_of (drop at text) ≡ run (capitals (between text from to)) ∷ tokens_of (drop to text)
+  pub run-tokens : (from to : ℕ) → token_at text at ≡ Some (Run from to) → tokens_of (drop at text) ≡ run (capitals (between text from to)) ∷ tokens_of (drop to text)
   unfolding told
   run-tokens from to e = (stands text at).tokens ∙ ap (told text) e
 
-  pub mark-tokens : (c next : ℕ) → token_at text at ≡ Mark c next → tokens_of (drop at text) ≡ mark c ∷ tokens_of (drop next text)
+  pub mark-tokens : (c next : ℕ) → token_at text at ≡ Some (Mark c next) → tokens_of (drop at text) ≡ mark c ∷ tokens_of (drop next text)
   unfolding told
   mark-tokens c next e = (stands text at).tokens ∙ ap (told text) e
 
-  pub no-sign-none : token_at text at ≡ Nothing → sign_at text at ≡ sign 0 at
-  unfolding sign_at
-  no-sign-none e = ap (sign_by at) e
-
-  pub no-sign-run : (from to : ℕ) → token_at text at ≡ Run from to → sign_at text at ≡ sign 0 at
-  unfolding sign_at
-  no-sign-run from to e = ap (sign_by at) e
-
-  pub sign-mark : (c next : ℕ) → token_at text at ≡ Mark c next → (b : Bool) → is_sign c ≡ b → sign_at text at ≡ pick b (sign c next) (sign 0 at)
-  unfolding sign_at
-  sign-mark c next e b h = ap (sign_by at) e ∙ rw h
-
 -- what stands at a place in a sum
-pub data PartStands (text : List ℕ) (at : ℕ) : Ahead → Type 0 where
-  stops : before_comma (tokens_of (drop at text)) ≡ [] → PartStands text at Stop
-  goes : (t : Token) (next : ℕ) → before_comma (tokens_of (drop at text)) ≡ t ∷ before_comma (tokens_of (drop next text)) → at < next → next ≤ length text → PartStands text at (Next (role_of t) next)
+pub data PartStands (text : List ℕ) (at : ℕ) : Option (Role × ℕ) → Type 0 where
+  stops : before_comma (tokens_of (drop at text)) ≡ [] → PartStands text at None
+  goes : (t : Token) (next : ℕ) → before_comma (tokens_of (drop at text)) ≡ t ∷ before_comma (tokens_of (drop next text)) → at < next → next ≤ length text → PartStands text at (Some (role_of t, next))
 
 pub before-none : before_comma [] ≡ []
 unfolding before_comma
@@ -286,25 +246,21 @@ mark-role : (c : ℕ) → role_of (mark c) ≡ mark_role c
 unfolding role_of
 mark-role c = refl
 
-part_by : (text : List ℕ) (at : ℕ) (f : TokenFound) → Stands text at f → PartStands text at (ahead_by text f)
+part_by : (text : List ℕ) (at : ℕ) (f : Option Found) → Stands text at f → PartStands text at (ahead_by text f)
 unfolding told Lies
-part_by text at Nothing s = stops (ap before_comma s.tokens ∙ before-none)
-part_by text at (Run from to) s = go (is_term (capitals (between text from to))) refl
+part_by text at None s = stops (ap before_comma s.tokens ∙ before-none)
+part_by text at (Some (Run from to)) s = subst (λ (p : Role). PartStands text at (Some (p, to))) (run-part r (is_term r) refl) (goes (run r) to text-so (omega (arith, s.lies.0, s.lies.1)) s.lies.2)
   where
     r : List ℕ
     r = capitals (between text from to)
 
     text-so : before_comma (tokens_of (drop at text)) ≡ run r ∷ before_comma (tokens_of (drop to text))
     text-so = ap before_comma s.tokens ∙ before-run r (tokens_of (drop to text))
-
-    go : (b : Bool) → is_term r ≡ b → PartStands text at (pick b (Next Term to) (Next Other to))
-    go true e = subst (λ (p : Role). PartStands text at (Next p to)) (run-part r true e) (goes (run r) to text-so (omega (arith, s.lies.0, s.lies.1)) s.lies.2)
-    go false e = subst (λ (p : Role). PartStands text at (Next p to)) (run-part r false e) (goes (run r) to text-so (omega (arith, s.lies.0, s.lies.1)) s.lies.2)
-part_by text at (Mark c next) s = go (eqb c 44) refl
+part_by text at (Some (Mark c next)) s = go (eqb c 44) refl
   where
-    go : (b : Bool) → eqb c 44 ≡ b → PartStands text at (pick b Stop (Next (mark_role c) next))
+    go : (b : Bool) → eqb c 44 ≡ b → PartStands text at (pick b None (Some (mark_role c, next)))
     go true e = stops (ap before_comma s.tokens ∙ before-mark c (tokens_of (drop next text)) true e)
-    go false e = subst (λ (p : Role). PartStands text at (Next p next)) (mark-role c) (goes (mark c) next (ap before_comma s.tokens ∙ before-mark c (tokens_of (drop next text)) false e) s.lies.0 s.lies.1)
+    go false e = subst (λ (p : Role). PartStands text at (Some (p, next))) (mark-role c) (goes (mark c) next (ap before_comma s.tokens ∙ before-mark c (tokens_of (drop next text)) false e) s.lies.0 s.lies.1)
 
 pub part-stands : (text : List ℕ) (at : ℕ) → PartStands text at (role_at text at)
 unfolding role_at
@@ -322,30 +278,20 @@ scan-one : (s : Scan) (t : Token) (ts : List Token) → scan_from s (t ∷ ts) �
 unfolding scan_from
 scan-one s t ts = refl
 
-pub scan-stops : (s : Scan) (text : List ℕ) (at : ℕ) {a : Ahead} → PartStands text at a → a ≡ Stop → scan_at s text at ≡ s
+pub scan-stops : (s : Scan) (text : List ℕ) (at : ℕ) {a : Option (Role × ℕ)} → PartStands text at a → a ≡ None → scan_at s text at ≡ s
 scan-stops s text at (stops e) h = ap (scan_from s) e ∙ scan-none s
-scan-stops s text at (goes t next e l m) h = next-stop h
-  where
-    next-stop : {A : Type 0} → Next (role_of t) next ≡ Stop → A
-    next-stop z = let q : ◌≡◌ {A = ℕ} 0 1 = cc in absurd (eqb-false 0 1 refl q)
-
-pub scan-over : (s : Scan) (text : List ℕ) (at : ℕ) → length text ≤ at → scan_at s text at ≡ s
-scan-over s text at h = ap (λ (x : List Token). scan_from s (before_comma x)) (no-tokens text at h) ∙ ap (scan_from s) before-none ∙ scan-none s
+scan-stops s text at (goes t next e l m) h = absurd (none-some _ (sym h))
 
 pub record GoesOn (s : Scan) (text : List ℕ) (at : ℕ) (p : Role) (next : ℕ) : Type 0 where
   pub same : scan_at s text at ≡ scan_at (scanned s p) text next
   pub more : at < next
   pub inside : next ≤ length text
 
-pub scan-goes : (s : Scan) (text : List ℕ) (at : ℕ) {a : Ahead} → PartStands text at a → (p : Role) (next : ℕ) → a ≡ Next p next → GoesOn s text at p next
-scan-goes s text at (stops e) p next h = stop-next h
-  where
-    stop-next : {A : Type 0} → Stop ≡ Next p next → A
-    stop-next z = let q : ◌≡◌ {A = ℕ} 0 1 = cc in absurd (eqb-false 0 1 refl q)
+pub scan-goes : (s : Scan) (text : List ℕ) (at : ℕ) {a : Option (Role × ℕ)} → PartStands text at a → (p : Role) (next : ℕ) → a ≡ Some (p, next) → GoesOn s text at p next
+scan-goes s text at (stops e) p next h = absurd (none-some _ h)
 scan-goes s text at (goes t n1 e l m) p next h =
-    let f : role_of t ≡ p = cc in
-    let g : n1 ≡ next = cc in
-    rw (← g) (record { same = ap (scan_from s) e ∙ scan-one s t (before_comma (tokens_of (drop n1 text))) ∙ ap (λ (x : Role). scan_at (scanned s x) text n1) f; more = l; inside = m })
+    let same = some_pair_parts _ _ _ _ h in
+    rw (← same.1) (record { same = ap (scan_from s) e ∙ scan-one s t (before_comma (tokens_of (drop n1 text))) ∙ ap (λ (x : Role). scan_at (scanned s x) text n1) same.0; more = l; inside = m })
 
 either-most : (b : Bool) (x y : Scan) {n : ℕ} → x.opened ≤ n → y.opened ≤ n → (pick b x y).opened ≤ n
 either-most true x y h k = h
@@ -362,31 +308,36 @@ opened-most s Closes = either-most (s.due || eqb s.opened 0) _ _ (omega arith) (
 opened-most s Other = omega arith
 
 -- the sign at a place
-pub record SignStands (text : List ℕ) (at : ℕ) (g : Sign) : Type 0 where
-  pub none : g.sign ≡ 0 → begins_sign (tokens_of (drop at text)) ≡ false
-  pub some : (g.sign ≡ 0 → ⊥) → (is_sign g.sign ≡ true) × (tokens_of (drop at text) ≡ mark g.sign ∷ tokens_of (drop g.next text))
+pub record SignStands (text : List ℕ) (at : ℕ) (g : Option (Sign × ℕ)) : Type 0 where
+  pub none : g ≡ None → begins_sign (tokens_of (drop at text)) ≡ false
+  pub some : (s : Sign) (next : ℕ) → g ≡ Some (s, next) → tokens_of (drop at text) ≡ mark (mark_of s) ∷ tokens_of (drop next text)
 
-sign-by : (text : List ℕ) (at : ℕ) (f : TokenFound) → Stands text at f → SignStands text at (sign_by at f)
+pub is-sign : (s : Sign) → is_sign (mark_of s) ≡ true
+is-sign sign.Plus = refl
+is-sign sign.Minus = refl
+
+sign-by : (text : List ℕ) (at : ℕ) (f : Option Found) → Stands text at f → SignStands text at (sign_by f)
 unfolding told
-sign-by text at Nothing s = record { none = λ h. rw s.tokens; some = λ h. absurd (h refl) }
-sign-by text at (Run from to) s = record { none = λ h. rw s.tokens; some = λ h. absurd (h refl) }
-sign-by text at (Mark c next) s = go (is_sign c) refl
+sign-by text at None s = record { none = λ h. rw s.tokens; some = λ g next h. absurd (none-some _ h) }
+sign-by text at (Some (Run from to)) s = record { none = λ h. rw s.tokens; some = λ g next h. absurd (none-some _ h) }
+sign-by text at (Some (Mark c next)) s = go (eqb c 43) refl (eqb c 45) refl
   where
-    go : (b : Bool) → is_sign c ≡ b → SignStands text at (pick b (sign c next) (sign 0 at))
-    go true e = record { none = λ h. absurd (no_zero h); some = λ h. (e, s.tokens) }
-      where
-        no_zero : c ≡ 0 → ⊥
-        no_zero z = false≢true (ap is_sign (sym z) ∙ e)
-    go false e = record { none = λ h. rw s.tokens e; some = λ h. absurd (h refl) }
+    told-so : (n : ℕ) → c ≡ n → tokens_of (drop at text) ≡ mark n ∷ tokens_of (drop next text)
+    told-so n e = s.tokens ∙ ap (λ (x : ℕ). mark x ∷ tokens_of (drop next text)) e
+
+    go : (a : Bool) → eqb c 43 ≡ a → (b : Bool) → eqb c 45 ≡ b → SignStands text at (pick a (Some (sign.Plus, next)) (pick b (Some (sign.Minus, next)) None))
+    go true e b f = record { none = λ h. absurd (none-some _ (sym h)); some = λ g n h. let p = some_pair_parts _ _ _ _ h in rw (← p.0, ← p.1) (told-so 43 (eqb-true c 43 e)) }
+    go false e true f = record { none = λ h. absurd (none-some _ (sym h)); some = λ g n h. let p = some_pair_parts _ _ _ _ h in rw (← p.0, ← p.1) (told-so 45 (eqb-true c 45 f)) }
+    go false e false f = record { none = λ h. rw s.tokens (rw (e, f)); some = λ g n h. absurd (none-some _ h) }
 
 pub sign-stands : (text : List ℕ) (at : ℕ) → SignStands text at (sign_at text at)
 unfolding sign_at
 sign-stands text at = sign-by text at (token_at text at) (stands text at)
 
 -- the sign before a sum's first term
-pub record LeadStands (text : List ℕ) (at : ℕ) (g : Sign) : Type 0 where
-  pub sign-is : first_sign (tokens_of (drop at text)) ≡ g.sign
-  pub past : past_minus (tokens_of (drop at text)) ≡ tokens_of (drop g.next text)
+pub record LeadStands (text : List ℕ) (at : ℕ) (g : Sign × ℕ) : Type 0 where
+  pub sign-is : first_sign (tokens_of (drop at text)) ≡ mark_of g.0
+  pub past : past_minus (tokens_of (drop at text)) ≡ tokens_of (drop g.1 text)
 
 unsigned : (ts : List Token) → begins_sign ts ≡ false → begins_minus ts ≡ false
 unsigned [] h = refl
@@ -397,50 +348,14 @@ unsigned (mark c ∷ ts) h = go (eqb c 43) (eqb c 45) h
     go true b k = absurd (false≢true (sym k))
     go false b k = k
 
-lead-by : (text : List ℕ) (at : ℕ) (g : Sign) → SignStands text at g → LeadStands text at (pick (eqb g.sign 45) g (sign 43 at))
-lead-by text at g s = go (eqb g.sign 45) refl
-  where
-    go : (b : Bool) → eqb g.sign 45 ≡ b → LeadStands text at (pick b g (sign 43 at))
-    go true e =
-        let z = eqb-true g.sign 45 e in
-        let t = (s.some (λ h. omega arith)).1 in
-        record { sign-is = ap first_sign t ∙ rw (z) refl; past = ap past_minus t ∙ rw z }
-    go false e = let n = no_minus (eqb g.sign 0) refl in record { sign-is = rw n; past = rw n }
-      where
-        no_minus : (b : Bool) → eqb g.sign 0 ≡ b → begins_minus (tokens_of (drop at text)) ≡ false
-        no_minus true h = unsigned (tokens_of (drop at text)) (s.none (eqb-true g.sign 0 h))
-        no_minus false h = ap begins_minus (s.some (eqb-false g.sign 0 h)).1 ∙ e
+lead-stands-by : (text : List ℕ) (at : ℕ) (g : Option (Sign × ℕ)) → SignStands text at g → LeadStands text at (lead_by at g)
+lead-stands-by text at None s = let n = unsigned (tokens_of (drop at text)) (s.none refl) in record { sign-is = rw n; past = rw n }
+lead-stands-by text at (Some (sign.Plus, next)) s = let t = s.some sign.Plus next refl in record { sign-is = ap first_sign t; past = ap past_minus t ∙ sym t }
+lead-stands-by text at (Some (sign.Minus, next)) s = let t = s.some sign.Minus next refl in record { sign-is = ap first_sign t; past = ap past_minus t }
 
 pub lead-stands : (text : List ℕ) (at : ℕ) → LeadStands text at (lead_at text at)
 unfolding lead_at
-lead-stands text at = lead-by text at (sign_at text at) (sign-stands text at)
-
--- where a parenthesis may open or close, and where a minus may stand
-pub opens_not : (s : Scan) → s.due ≡ false → opens? s ≡ no_sum s
-opens_not s h = passed s.due _ _ h
-
-pub opens-more : (s : Scan) (most : ℕ) → s.due ≡ true → greater s.most (s.opened + 1) ≡ most → opens? s ≡ scan s.good (s.opened + 1) most true true
-opens-more s most h e = chosen s.due _ _ h ∙ ap (λ (m : ℕ). scan s.good (s.opened + 1) m true true) e
-
-pub minus-not : (s : Scan) → s.due && not s.begins ≡ true → minus? s ≡ no_sum s
-minus-not s h = go s.due s.begins h
-  where
-    go : (a b : Bool) → a && not b ≡ true → pick (a && b) (scan s.good s.opened s.most true false) (pick a (no_sum s) (scan s.good s.opened s.most true false)) ≡ no_sum s
-    go true true k = absurd (false≢true k)
-    go true false k = refl
-    go false b k = absurd (false≢true k)
-
-pub minus-may : (s : Scan) → s.due && not s.begins ≡ false → minus? s ≡ scan s.good s.opened s.most true false
-minus-may s h = go s.due s.begins h
-  where
-    go : (a b : Bool) → a && not b ≡ false → pick (a && b) (scan s.good s.opened s.most true false) (pick a (no_sum s) (scan s.good s.opened s.most true false)) ≡ scan s.good s.opened s.most true false
-    go true true k = refl
-    go true false k = absurd (false≢true (sym k))
-    go false b k = refl
-
-pub none_open : (due : Bool) (n : ℕ) → due || eqb n 0 ≡ false → 1 ≤ n
-none_open true n h = absurd (false≢true (sym h))
-none_open false n h = let z = eqb-false n 0 h in omega arith
+lead-stands text at = lead-stands-by text at (sign_at text at) (sign-stands text at)
 
 -- a part that ends behind its first place has a character
 pub part-some : (text : List ℕ) (from to : ℕ) → from < to → to ≤ length text → 0 < length (between text from to)

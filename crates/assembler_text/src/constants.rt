@@ -1,80 +1,46 @@
 // Constants: runs that begin with a digit.
 ghost use Rattle.std.specs.Prelude.{◌≡◌, ◌≤◌};
 ghost use Rattle.assembly_rules.specs.Text.{capitals};
-ghost use Rattle.assembly_rules.specs.Numbers.{digit_value, is_radix, radix_of, digits_from, constant_of};
+ghost use Rattle.assembly_rules.specs.Numbers.{digits_from, constant_of};
+ghost use Rattle.assembler_text.specs.Places.{radix_told};
 
 use crate::characters;
-use assembly_rules::Constant;
 
-// What a character counts as a digit, 16 where it is none.
-fn digit_value(c: u8) -> u32
-    ensures { result ≡ digit_value c }
+// The radix that a capital tells at a constant's end, if it tells one.
+#[tactic(auto, unfolding(assembly_rules::specs::Numbers::is_radix, assembly_rules::specs::Numbers::radix_of))]
+fn radix(letter: u8) -> Option<u32>
+    ensures { result ≡ radix_told letter }
 {
-    if c < 48 {
-        return 16;
+    match letter {
+        b'B' => Some(2),
+        b'O' | b'Q' => Some(8),
+        b'D' => Some(10),
+        b'H' => Some(16),
+        _ => None,
     }
-    if c <= 57 {
-        return (c - 48) as u32;
-    }
-    if c < 65 {
-        return 16;
-    }
-    if 70 < c {
-        return 16;
-    }
-    (c - 55) as u32
 }
 
-// Whether a letter tells the radix.
-fn is_radix(c: u8) -> bool
-    ensures { result ≡ is_radix c }
-{
-    (c == 66) | ((c == 79) | ((c == 81) | ((c == 68) | (c == 72))))
-}
-
-// The radix by a run's last character.
-fn radix(c: u8) -> u32
-    ensures { result ≡ radix_of c }
-{
-    if c == 66 {
-        return 2;
-    }
-    if (c == 79) | (c == 81) {
-        return 8;
-    }
-    if c == 72 { 16 } else { 10 }
-}
-
-// Digits read in a radix, mod 65,536.
-fn read_digits(digits: &[u8], radix: u32) -> Constant
-    requires { radix ≤ 16 }
+// Digits read in a radix, mod 65,536, if each is one of the radix.
+fn read_digits(digits: &[u8], radix: u32) -> Option<u32>
+    requires { (2 ≤ radix) × (radix ≤ 16) }
     ensures { result ≡ digits_from radix 0 (capitals digits.now) }
 {
     let mut value: u32 = 0;
-    let mut i: usize = 0;
-    while i < digits.len() {
-        let d = digit_value(characters::capital(digits[i]));
-        if radix <= d {
-            return Constant::NoConstant;
-        }
-        value = (value * radix + d) % 65536;
-        i += 1;
+    for c in digits {
+        value = (value * radix + (*c as char).to_digit(radix)?) % 65536;
     }
-    Constant::Value(value)
+    Some(value)
 }
 
-// The constant that a run is.
-pub(crate) fn constant(run: &[u8]) -> Constant
+// The constant that a run is, if it is one.
+pub(crate) fn constant(run: &[u8]) -> Option<u32>
     ensures { result ≡ constant_of (capitals run.now) }
 {
-    let len = run.len();
-    if len == 0 {
-        return Constant::Value(0);
+    let Some((last, front)) = run.split_last() else {
+        return Some(0);
+    };
+    match radix(characters::capital(*last)) {
+        Some(radix) => read_digits(front, radix),
+        None => read_digits(run, 10),
     }
-    let last = characters::capital(run[len - 1]);
-    if is_radix(last) {
-        let front = len - 1;
-        return read_digits(&run[..front], radix(last));
-    }
-    read_digits(run, 10)
 }

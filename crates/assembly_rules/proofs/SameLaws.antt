@@ -14,7 +14,7 @@ use Rattle.listing_rules.specs.Entries.{OperandKind, Entry}
 use Rattle.assembly_rules.specs.Text.{Token, begun, all_of, in_front_of, begun_by, tokens_of, lines_in}
 use Rattle.assembly_rules.specs.Text.Token.{run}
 use Rattle.assembly_rules.specs.Numbers.{constant_of}
-use Rattle.assembly_rules.specs.declared.Constant.TheVariants.{Value}
+use Rattle.std.specs.declared.option.Option.TheVariants.{Some}
 use Rattle.assembly_rules.specs.Sums.{begins_digit, Label, sum_worth}
 use Rattle.assembly_rules.specs.Trees.{Sum, sum_tokens, sum_depth, sum_added, sum_taken, sum_known}
 use Rattle.assembly_rules.specs.Trees.Sum.{only}
@@ -38,7 +38,7 @@ pub trees-same : (labels : List Label) (s t : Sum) → sum_depth s ≤ 8 → sum
 trees-same labels s t k l g h e = tree-worth labels s k ∙ rw (g, e) (rw (← h) (sym (tree-worth labels t l)))
 
 -- so a constant that is a sum's value may stand for it, or the sum for the constant
-pub constant-same : (labels : List Label) (s : Sum) (r : List ℕ) (v : ℕ) → begins_digit r ≡ true → constant_of r ≡ Value v → sum_depth s ≤ 8 → sum_known labels s ≡ true → tree_value labels s ≡ v → sum_worth labels (sum_tokens s) ≡ sum_worth labels (run r ∷ [])
+pub constant-same : (labels : List Label) (s : Sum) (r : List ℕ) (v : ℕ) → begins_digit r ≡ true → constant_of r ≡ Some v → sum_depth s ≤ 8 → sum_known labels s ≡ true → tree_value labels s ≡ v → sum_worth labels (sum_tokens s) ≡ sum_worth labels (run r ∷ [])
 unfolding sum_tokens sum_depth sum_added sum_taken sum_known
 constant-same labels s r v d e l k h =
     let small = constant-small r v e in

@@ -11,8 +11,8 @@ use lib.Dec.{eqb, leb}
 use lib.ListN.{length, get_or}
 use borrow.Author.Tests.{eqb-true, eq-eqb, ne_eqb, lt-ltb, leb-true, leb-false, le-leb}
 use Rattle.ground_rules.specs.Choice.{pick}
-use Rattle.assembly_rules.specs.declared.Constant.{Constant}
-use Rattle.assembly_rules.specs.declared.Constant.TheVariants.{Value, NoConstant}
+use Rattle.std.specs.declared.option.Option.{Option}
+use Rattle.std.specs.declared.option.Option.TheVariants.{None, Some}
 use Rattle.assembly_rules.specs.declared.Role.{Role}
 use Rattle.assembly_rules.specs.declared.Role.TheVariants.{Term, Plus, Minus, Opens, Closes, Other}
 use Rattle.assembly_rules.specs.declared.Scan.{Scan}
@@ -72,7 +72,7 @@ larger-sum m o a b = go (leb a b) refl
     go false e = let l = leb-false a b e in let k = larger-over m (o + a) in larger-left (greater m (o + a)) (o + b) (omega arith)
 
 -- a run that is a term of a tree is one in the scan
-constant-term : (r : List ℕ) (v : ℕ) → begins_digit r ≡ true → constant_of r ≡ Value v → is_term r ≡ true
+constant-term : (r : List ℕ) (v : ℕ) → begins_digit r ≡ true → constant_of r ≡ Some v → is_term r ≡ true
 unfolding is_term
 constant-term r v d e = rw (d, e)
 
@@ -221,9 +221,9 @@ leaf_of : (r : List ℕ) → is_term r ≡ true → (t : Trees.Term) × (term_to
 unfolding is_term term_tokens
 leaf_of r h = go (begins_digit r) refl (constant_of r) refl (is_register r) refl h
   where
-    go : (d : Bool) → begins_digit r ≡ d → (k : Constant) → constant_of r ≡ k → (g : Bool) → is_register r ≡ g → pick d (is_value k) (not g) ≡ true → (t : Trees.Term) × (term_tokens t ≡ run r ∷ [])
-    go true p (Value v) q g s t = (constant r v p q, refl)
-    go true p NoConstant q g s t = absurd (false≢true t)
+    go : (d : Bool) → begins_digit r ≡ d → (k : Option ℕ) → constant_of r ≡ k → (g : Bool) → is_register r ≡ g → pick d (is_value k) (not g) ≡ true → (t : Trees.Term) × (term_tokens t ≡ run r ∷ [])
+    go true p (Some v) q g s t = (constant r v p q, refl)
+    go true p None q g s t = absurd (false≢true t)
     go false p k q true s t = absurd (false≢true t)
     go false p k q false s t = (name r p s, refl)
 

@@ -8,8 +8,8 @@ use native.Mathlib.Omega.{arith}
 use lib.Dec.{eqb}
 use lib.ListN.{length, drop}
 use Rattle.ground_rules.specs.Choice.{pick}
-use Rattle.assembly_rules.specs.declared.Constant.{Constant}
-use Rattle.assembly_rules.specs.declared.Constant.TheVariants.{Value, NoConstant}
+use Rattle.std.specs.declared.option.Option.{Option}
+use Rattle.std.specs.declared.option.Option.TheVariants.{None, Some}
 use Rattle.assembly_rules.specs.declared.Worth.{Worth}
 use Rattle.assembly_rules.specs.Text.{Token}
 use Rattle.assembly_rules.specs.Text.Token.{run, mark}
@@ -72,9 +72,9 @@ close-short w [] = tt
 close-short w (run r ∷ ts) = tt
 close-short w (mark c ∷ ts) = short-pick (eqb c 41) (suc (length (mark c ∷ ts))) (read w ts) wrong (omega arith) tt
 
-value-short : (k : Constant) (ts : List Token) → Short (suc (length ts)) (value_read k ts)
-value-short (Value v) ts = omega arith
-value-short NoConstant ts = tt
+value-short : (k : Option ℕ) (ts : List Token) → Short (suc (length ts)) (value_read k ts)
+value-short (Some v) ts = omega arith
+value-short None ts = tt
 
 run_short : (labels : List Label) (r : List ℕ) (ts : List Token) → Short (suc (length ts)) (run_read labels r ts)
 unfolding run_read

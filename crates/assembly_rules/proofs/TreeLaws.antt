@@ -10,7 +10,7 @@ use lib.ListN.{length, length-append}
 use borrow.Author.Tests.{leb-true, leb-false}
 use native.Mathlib.Nat.{mod-lt, mod-mod, mod-add-mod, zero-add, add-zero}
 use Rattle.ground_rules.specs.Choice.{pick}
-use Rattle.assembly_rules.specs.declared.Constant.TheVariants.{Value}
+use Rattle.std.specs.declared.option.Option.TheVariants.{Some}
 use Rattle.assembly_rules.specs.declared.Worth.{Worth}
 use Rattle.assembly_rules.specs.Text.{Token}
 use Rattle.assembly_rules.specs.Text.Token.{run, mark}
@@ -166,7 +166,7 @@ more-read s minus t depth labels ts all r =
         let a = (all (mark (pick minus 45 43) ∷ (term_tokens t ++ ts))).worth-read l in
         a.1.0 ∙ on a.0 ∙ ap (λ (y : Read). and_then y (λ x rest. rest_with (term_of depth labels) (length (term_tokens t ++ ts)) (combined_worth (pick minus 45 43) a.0 x) rest)) (r.too-deep (larger-second (sum_depth s) (term_depth t) depth l h))
 
-constant-read : (r : List ℕ) (v : ℕ) (d : begins_digit r ≡ true) (e : constant_of r ≡ Value v) (depth : ℕ) (labels : List Label) (ts : List Token) → term_of depth labels (run r ∷ ts) ≡ read (worth v true) ts
+constant-read : (r : List ℕ) (v : ℕ) (d : begins_digit r ≡ true) (e : constant_of r ≡ Some v) (depth : ℕ) (labels : List Label) (ts : List Token) → term_of depth labels (run r ∷ ts) ≡ read (worth v true) ts
 unfolding term_of term_by run_read
 constant-read r v d e zero labels ts = rw (d, e)
 constant-read r v d e (suc depth) labels ts = rw (d, e)

@@ -1,8 +1,8 @@
 -- Constants: runs that begin with a digit, read in the radix that the last letter tells (§14.2).
 use Rattle.std.specs.Prelude.{Bool, ◌&&◌, ◌||◌, List, [], ◌∷◌, ℕ, ◌+◌, ◌*◌, ◌-◌, ◌%◌, eqb, ltb, leb}
 use Rattle.ground_rules.specs.Choice.{pick}
-use Rattle.assembly_rules.specs.declared.Constant.{Constant}
-use Rattle.assembly_rules.specs.declared.Constant.TheVariants.{Value, NoConstant}
+use Rattle.std.specs.declared.option.Option.{Option}
+use Rattle.std.specs.declared.option.Option.TheVariants.{None, Some}
 use Rattle.assembly_rules.specs.Text.{is_digit}
 
 -- what a capital or a digit counts, 16 where it is no hexadecimal digit
@@ -29,15 +29,15 @@ but_last (c ∷ []) = []
 but_last (c ∷ d ∷ cs) = c ∷ but_last (d ∷ cs)
 
 -- digits read behind a value so far, mod 65,536; each must be below the radix (§14.2)
-unfoldable pub digits_from : ℕ → ℕ → List ℕ → Constant
-digits_from radix value [] = Value value
+unfoldable pub digits_from : ℕ → ℕ → List ℕ → Option ℕ
+digits_from radix value [] = Some value
 digits_from radix value (c ∷ cs) =
-    pick (ltb (digit_value c) radix) (digits_from radix ((value * radix + digit_value c) % 65536) cs) NoConstant
+    pick (ltb (digit_value c) radix) (digits_from radix ((value * radix + digit_value c) % 65536) cs) None
 
 -- the digits of a run: all of it but a letter for the radix
 unfoldable pub constant_digits : List ℕ → List ℕ
 constant_digits r = pick (is_radix (last_of r)) (but_last r) r
 
 -- the constant that a run is (§14.2)
-unfoldable pub constant_of : List ℕ → Constant
+unfoldable pub constant_of : List ℕ → Option ℕ
 constant_of r = digits_from (radix_of (last_of r)) 0 (constant_digits r)

@@ -3,8 +3,8 @@ use Rattle.std.specs.Prelude.{Bool, true, false, not, ◌&&◌, ◌||◌, List, 
 use Rattle.ground_rules.specs.Choice.{pick}
 use Rattle.listing_rules.specs.Characters.{ascii, same_text}
 use Rattle.listing_rules.specs.Forms.{register_names}
-use Rattle.assembly_rules.specs.declared.Constant.{Constant}
-use Rattle.assembly_rules.specs.declared.Constant.TheVariants.{Value, NoConstant}
+use Rattle.std.specs.declared.option.Option.{Option}
+use Rattle.std.specs.declared.option.Option.TheVariants.{None, Some}
 use Rattle.assembly_rules.specs.declared.Role.{Role}
 use Rattle.assembly_rules.specs.declared.Role.TheVariants.{Term, Plus, Minus, Opens, Closes, Other}
 use Rattle.assembly_rules.specs.declared.Scan.{Scan}
@@ -33,9 +33,9 @@ is_register r = ltb (register_number r) 9
 abbrev pub begins_digit : List ℕ → Bool
 begins_digit r = is_digit (get_or r 0 0)
 
-abbrev pub is_value : Constant → Bool
-is_value (Value v) = true
-is_value NoConstant = false
+abbrev pub is_value : Option ℕ → Bool
+is_value (Some v) = true
+is_value None = false
 
 -- what a run may be in a sum: a constant, or a name that is no register (§14.2)
 unfoldable pub is_term : List ℕ → Bool
@@ -176,9 +176,9 @@ past_minus ts = pick (begins_minus ts) (drop 1 ts) ts
 unfoldable pub sum_with : (List Token → Read) → List Token → Read
 sum_with term ts = and_then (term (past_minus ts)) (λ x rest. rest_with term (length rest) (combined_worth (first_sign ts) (worth 0 true) x) rest)
 
-abbrev pub value_read : Constant → List Token → Read
-value_read (Value v) ts = read (worth v true) ts
-value_read NoConstant ts = wrong
+abbrev pub value_read : Option ℕ → List Token → Read
+value_read (Some v) ts = read (worth v true) ts
+value_read None ts = wrong
 
 -- a constant or a name
 unfoldable pub run_read : List Label → List ℕ → List Token → Read

@@ -1,7 +1,7 @@
 -- A sum as a tree: constants and names, terms added and taken away, sums in parentheses; its tokens, its depth and its value (§14.2).
 use Rattle.std.specs.Prelude.{◌≡◌, Bool, true, false, ◌&&◌, List, [], ◌∷◌, ◌++◌, ℕ, suc, ◌+◌}
 use Rattle.ground_rules.specs.Choice.{pick}
-use Rattle.assembly_rules.specs.declared.Constant.TheVariants.{Value}
+use Rattle.std.specs.declared.option.Option.TheVariants.{Some}
 use Rattle.assembly_rules.specs.Text.{Token}
 use Rattle.assembly_rules.specs.Text.Token.{run, mark}
 use Rattle.assembly_rules.specs.Numbers.{constant_of}
@@ -15,7 +15,7 @@ mutual
 
   -- a constant, a name that is no register, a sum in parentheses
   pub data Term : Type 0 where
-    constant : (r : List ℕ) (v : ℕ) → begins_digit r ≡ true → constant_of r ≡ Value v → Term
+    constant : (r : List ℕ) (v : ℕ) → begins_digit r ≡ true → constant_of r ≡ Some v → Term
     name : (r : List ℕ) → begins_digit r ≡ false → is_register r ≡ false → Term
     inside : Sum → Term
 

@@ -1,30 +1,37 @@
 -- What an attention stores, worked out before anything is stored.
-use Rattle.std.specs.Prelude.{Bool, true, false, ℕ}
-use Rattle.ground_rules.specs.Choice.{pick}
+use Rattle.std.specs.Prelude.{ℕ, Option, Some, None}
 use Rattle.ground_rules.specs.Buffers.{Buffers}
 use Rattle.ground_rules.specs.declared.Channel.{Channel}
 use Rattle.attention_rules.specs.declared.Command.{Command}
 use Rattle.attention_rules.specs.declared.Command.TheVariants.{Update, StartLocal, StartSystem, Suspend, Resume, Halt, Unknown}
 use Rattle.attention_rules.specs.Effects.{saved, marked}
+use Rattle.attention.specs.declared.Saved.{Saved}
 use Rattle.attention.specs.declared.Writes.{Writes}
 
--- what an order stores, with what it needs for that: whether TP and PSW are saved in PB; whether BUSY is stored, and as what
-abbrev pub writes_with : Bool → Bool → ℕ → ℕ → ℕ → Channel → Writes
-writes_with saves marks busy block pb c =
-    record { saves = saves; pb = pb; tp = c.tp; psw = c.psw; marks = marks; block = block; busy = busy }
+-- BUSY alone, or not even that
+abbrev pub marks_only : ℕ → Option ℕ → Writes
+marks_only block busy = record { saved = None; block = block; busy = busy }
 
 -- what a command stores
 unfoldable pub writes_of : Command → ℕ → ℕ → Channel → Writes
-writes_of Update = writes_with false false 0
-writes_of StartLocal = writes_with false true 255
-writes_of StartSystem = writes_with false true 255
-writes_of Suspend = writes_with true true 0
-writes_of Resume = writes_with false true 255
-writes_of Halt = writes_with false true 0
-writes_of Unknown = writes_with false false 0
+writes_of Update block pb c = marks_only block None
+writes_of StartLocal block pb c = marks_only block (Some 255)
+writes_of StartSystem block pb c = marks_only block (Some 255)
+writes_of Suspend block pb c = record { saved = Some (record { pb = pb; tp = c.tp; psw = c.psw }); block = block; busy = Some 0 }
+writes_of Resume block pb c = marks_only block (Some 255)
+writes_of Halt block pb c = marks_only block (Some 0)
+writes_of Unknown block pb c = marks_only block None
 
--- memory after those stores: what is saved, then BUSY
+-- memory after what is saved, if anything is
+unfoldable pub saved_by : Buffers → Option Saved → Buffers
+saved_by m None = m
+saved_by m (Some s) = saved m s.pb s.tp s.psw
+
+-- memory after BUSY, if it is stored
+unfoldable pub marked_by : Buffers → ℕ → Option ℕ → Buffers
+marked_by m block None = m
+marked_by m block (Some busy) = marked m block busy
+
+-- memory after both
 unfoldable pub writes_made : Buffers → Writes → Buffers
-writes_made m w =
-    let n = pick w.saves (saved m w.pb w.tp w.psw) m in
-    pick w.marks (marked n w.block w.busy) n
+writes_made m w = marked_by (saved_by m w.saved) w.block w.busy

@@ -7,21 +7,20 @@ use crate::commands;
 use attention_rules::{Command, Order};
 
 // Where PB lies: a start reads it in the block, any other command takes it at PP.
+#[tactic(auto, unfolding(attention_rules::specs::Blocks::parameter_block))]
 fn parameter_block(sys: &[u8], io: &[u8], command: Command, block: u32, pp: u32) -> u32
     ensures { result ≡ parameter_block command (lent sys.now io.now) block pp }
 {
     match command {
-        Command::Update => pp,
-        Command::StartLocal => memory::doubleword(sys, io, false, words::sum20(block, 2)),
-        Command::StartSystem => memory::doubleword(sys, io, false, words::sum20(block, 2)),
-        Command::Suspend => pp,
-        Command::Resume => pp,
-        Command::Halt => pp,
-        Command::Unknown => pp,
+        Command::StartLocal | Command::StartSystem => {
+            memory::doubleword(sys, io, false, words::sum20(block, 2))
+        }
+        _ => pp,
     }
 }
 
 // The order that a block holds for a channel with that PP.
+#[tactic(auto, unfolding(attention_rules::specs::Blocks::order_of, attention_rules::specs::Blocks::ccw_of))]
 pub fn order(sys: &[u8], io: &[u8], block: u32, pp: u32) -> Order
     ensures { result ≡ order_of (lent sys.now io.now) block pp }
 {

@@ -1,15 +1,17 @@
 // CCW: its command, what that asks of the channel's mode, and what every accepted command does to PSW.
 ghost use Rattle.std.specs.Prelude.{◌≡◌};
 ghost use Rattle.ground_rules.specs.Outcomes.{unless};
+ghost use Rattle.ground_rules.specs.Refusals.{answered, number_of};
 ghost use Rattle.attention_rules.specs.Commands as Commands;
 ghost use Rattle.attention_rules.specs.Commands.{command_of, command_number};
 ghost use Rattle.attention_rules.specs.Touched.{command_count};
 
 use attention_rules::Command;
-use ground_rules::Mode;
-use machine::{psw, states};
+use ground_rules::{Mode, Refusal};
+use machine::psw;
 
 // The command of a CCW.
+#[tactic(auto, unfolding(attention_rules::specs::Commands::command_coded))]
 pub fn command(ccw: u8) -> Command
     ensures { result ≡ command_of ccw }
 {
@@ -24,29 +26,32 @@ pub fn command(ccw: u8) -> Command
     }
 }
 
-// A refusal unless a test holds.
-fn refuse_unless(ok: bool, number: u32) -> u32
-    ensures { result ≡ unless ok number }
+// Refuses unless a test holds.
+#[tactic(auto, unfolding(ground_rules::specs::Outcomes::unless))]
+fn allow(ok: bool, refusal: Refusal) -> Result<(), Refusal>
+    ensures { answered result ≡ unless ok (number_of refusal) }
 {
-    if ok { 0 } else { number }
+    if ok { Ok(()) } else { Err(refusal) }
 }
 
-// The refusal of a command: 6, then 7, 8 or 9 by the channel's mode, else 0.
-pub fn refusal(command: Command, mode: Mode) -> u32
-    ensures { result ≡ command_number command mode }
+// Refuses a command that is none, or that the channel's mode does not allow.
+#[tactic(auto, unfolding(attention_rules::specs::Commands::command_number, attention_rules::specs::Commands::is_known, attention_rules::specs::Commands::mode_number, ground_rules::specs::Outcomes::first, ground_rules::specs::Outcomes::unless))]
+pub fn check(command: Command, mode: Mode) -> Result<(), Refusal>
+    ensures { answered result ≡ command_number command mode }
 {
     match command {
-        Command::Update => 0,
-        Command::StartLocal => refuse_unless(!states::is_running(mode), 8),
-        Command::StartSystem => refuse_unless(!states::is_running(mode), 8),
-        Command::Suspend => refuse_unless(states::is_running(mode), 9),
-        Command::Resume => refuse_unless(states::is_suspended(mode), 7),
-        Command::Halt => 0,
-        Command::Unknown => 6,
+        Command::Update | Command::Halt => Ok(()),
+        Command::StartLocal | Command::StartSystem => {
+            allow(!mode.is_running(), Refusal::AlreadyRunning)
+        }
+        Command::Suspend => allow(mode.is_running(), Refusal::NotRunning),
+        Command::Resume => allow(mode.is_suspended(), Refusal::NotSuspended),
+        Command::Unknown => Err(Refusal::BadCommand),
     }
 }
 
 // How many bytes an accepted command reads and stores.
+#[tactic(auto, unfolding(attention_rules::specs::Touched::command_count))]
 pub fn count(command: Command) -> u32
     ensures { result ≡ command_count command }
 {
@@ -54,14 +59,14 @@ pub fn count(command: Command) -> u32
         Command::Update => 1,
         Command::StartLocal => 8,
         Command::StartSystem => 10,
-        Command::Suspend => 6,
-        Command::Resume => 6,
+        Command::Suspend | Command::Resume => 6,
         Command::Halt => 2,
         Command::Unknown => 0,
     }
 }
 
 // PSW after the ICF of a CCW.
+#[tactic(auto, unfolding(attention_rules::specs::Commands::obeyed))]
 fn obeyed(ccw: u8, before: u8) -> u8
     ensures { result ≡ Commands.obeyed ccw before }
 {
@@ -74,6 +79,7 @@ fn obeyed(ccw: u8, before: u8) -> u8
 }
 
 // PSW after what every accepted command does to it: bits 5 and 7 of the CCW are copied, then ICF is obeyed.
+#[tactic(auto, unfolding(attention_rules::specs::Commands::ordered, attention_rules::specs::Commands::copied))]
 pub fn ordered(ccw: u8, before: u8) -> u8
     ensures { result ≡ Commands.ordered ccw before }
 {

@@ -1,28 +1,29 @@
 // What an accepted order makes of the channel and of memory.
 ghost use Rattle.std.specs.Prelude.{◌≡◌};
-ghost use Rattle.ground_rules.specs.Choice.{pick};
 ghost use Rattle.ground_rules.specs.Buffers.{lent};
 ghost use Rattle.attention_rules.specs.Effects as Effects;
-ghost use Rattle.attention_rules.specs.Effects.{channel_ordered, saved, marked};
-ghost use Rattle.attention.specs.Writes.{writes_with, writes_of, writes_made};
+ghost use Rattle.attention_rules.specs.Effects.{channel_ordered};
+ghost use Rattle.attention.specs.Writes.{writes_of, saved_by, marked_by, writes_made};
 
-use crate::{Writes, commands};
+use crate::{Saved, Writes, commands};
 use attention_rules::{Command, Order};
-use ground_rules::{Channel, Held, Mode, Pointer};
+use ground_rules::{Channel, Mode, Pointer};
 use machine::{psw, updates};
 
 // The channel after a start with PB and TP.
+#[tactic(auto, unfolding(attention_rules::specs::Effects::started))]
 fn started(c: Channel, pp: u32, tp: Pointer) -> Channel
     ensures { result ≡ Effects.started c pp tp }
 {
     let after = psw::with(psw::with(c.psw, psw::TB, true), psw::XF, false);
     updates::holds(
         updates::with_control(c, tp, pp, after, Mode::Running, false),
-        Held::NoByte,
+        None,
     )
 }
 
 // The channel after suspend.
+#[tactic(auto, unfolding(attention_rules::specs::Effects::suspended))]
 fn suspended(c: Channel) -> Channel
     ensures { result ≡ Effects.suspended c }
 {
@@ -38,6 +39,7 @@ fn suspended(c: Channel) -> Channel
 }
 
 // The channel after resume, with TP and PSW as they were saved.
+#[tactic(auto, unfolding(attention_rules::specs::Effects::resumed))]
 fn resumed(c: Channel, tp: Pointer, saved: u8) -> Channel
     ensures { result ≡ Effects.resumed c tp saved }
 {
@@ -83,71 +85,74 @@ fn commanded(sys: &[u8], io: &[u8], command: Command, pb: u32, c: Channel) -> Ch
 }
 
 // The channel after an accepted order.
+#[tactic(auto, unfolding(attention_rules::specs::Effects::channel_ordered, ground_rules::specs::Updates::with_control))]
 pub fn channel_ordered(sys: &[u8], io: &[u8], o: Order, c: Channel) -> Channel
     ensures { result ≡ channel_ordered (lent sys.now io.now) o c }
 {
-    let command = o.command;
-    let mut next = commanded(sys, io, command, o.pb, c);
+    let mut next = commanded(sys, io, o.command, o.pb, c);
     next.psw = commands::ordered(o.ccw, next.psw);
     next
 }
 
-// What an order stores, with what it needs for that.
-pub fn writes(o: Order, c: Channel, saves: bool, marks: bool, busy: u8) -> Writes
-    ensures { result ≡ writes_with saves marks busy o.block o.pb c }
-{
-    let tp = c.tp;
-    Writes {
-        saves,
-        pb: o.pb,
-        tp,
-        psw: c.psw,
-        marks,
-        block: o.block,
-        busy,
-    }
-}
-
 // What an accepted order to a channel stores.
+#[tactic(auto, unfolding(crate::specs::Writes::writes_of))]
 pub fn writes_of(o: Order, c: Channel) -> Writes
     ensures { result ≡ writes_of o.command o.block o.pb c }
 {
-    let command = o.command;
-    match command {
-        Command::Update => writes(o, c, false, false, 0),
-        Command::StartLocal => writes(o, c, false, true, 255),
-        Command::StartSystem => writes(o, c, false, true, 255),
-        Command::Suspend => writes(o, c, true, true, 0),
-        Command::Resume => writes(o, c, false, true, 255),
-        Command::Halt => writes(o, c, false, true, 0),
-        Command::Unknown => writes(o, c, false, false, 0),
+    let block = o.block;
+    match o.command {
+        Command::Update | Command::Unknown => Writes {
+            saved: None,
+            block,
+            busy: None,
+        },
+        Command::StartLocal | Command::StartSystem | Command::Resume => Writes {
+            saved: None,
+            block,
+            busy: Some(255),
+        },
+        Command::Suspend => Writes {
+            saved: Some(Saved {
+                pb: o.pb,
+                tp: c.tp,
+                psw: c.psw,
+            }),
+            block,
+            busy: Some(0),
+        },
+        Command::Halt => Writes {
+            saved: None,
+            block,
+            busy: Some(0),
+        },
     }
 }
 
-// TP and PSW saved in PB's first four bytes, or nothing.
-fn save_if(sys: &mut [u8], io: &mut [u8], on: bool, pb: u32, tp: Pointer, psw: u8)
-    ensures { lent sys.new io.new ≡ pick on (saved (lent sys.old io.old) pb tp psw) (lent sys.old io.old) }
+// TP and PSW saved in PB's first four bytes, if they are to be.
+fn save(sys: &mut [u8], io: &mut [u8], tp_and_psw: Option<Saved>)
+    ensures { lent sys.new io.new ≡ saved_by (lent sys.old io.old) tp_and_psw }
 {
-    if on {
-        memory::store_pointer(sys, io, false, pb, tp);
-        memory::store_byte(sys, io, false, words::sum20(pb, 3), psw);
+    if let Some(s) = tp_and_psw {
+        memory::store_pointer(sys, io, false, s.pb, s.tp);
+        memory::store_byte(sys, io, false, words::sum20(s.pb, 3), s.psw);
     }
 }
 
-// BUSY stored, or nothing.
-fn mark_if(sys: &mut [u8], io: &mut [u8], on: bool, block: u32, busy: u8)
-    ensures { lent sys.new io.new ≡ pick on (marked (lent sys.old io.old) block busy) (lent sys.old io.old) }
+// BUSY of a block stored, if it is to be.
+#[tactic(auto, unfolding(attention_rules::specs::Effects::marked, crate::specs::Writes::marked_by))]
+fn mark(sys: &mut [u8], io: &mut [u8], block: u32, busy: Option<u8>)
+    ensures { lent sys.new io.new ≡ marked_by (lent sys.old io.old) block busy }
 {
-    if on {
+    if let Some(busy) = busy {
         memory::store_byte(sys, io, false, machine::states::busy(block), busy);
     }
 }
 
 // All stores of an attention.
+#[tactic(auto, unfolding(crate::specs::Writes::writes_made))]
 pub fn write(sys: &mut [u8], io: &mut [u8], w: Writes)
     ensures { lent sys.new io.new ≡ writes_made (lent sys.old io.old) w }
 {
-    let tp = w.tp;
-    save_if(sys, io, w.saves, w.pb, tp, w.psw);
-    mark_if(sys, io, w.marks, w.block, w.busy);
+    save(sys, io, w.saved);
+    mark(sys, io, w.block, w.busy);
 }

@@ -31,6 +31,7 @@ fn started(sys: &[u8], io: &[u8], block: u32, pb: u32, count: u32) -> bool
 }
 
 // Whether all bytes of an order after its CCW may be touched.
+#[tactic(auto, unfolding(attention_rules::specs::Touched::others, attention_rules::specs::Touched::read_by, attention_rules::specs::Touched::stored_by, ground_rules::specs::Places::all_pass))]
 pub fn others(sys: &[u8], io: &[u8], o: Order) -> bool
     ensures { result ≡ all_touchable (lent sys.now io.now) (Touched.others o) }
 {
@@ -39,8 +40,7 @@ pub fn others(sys: &[u8], io: &[u8], o: Order) -> bool
         Command::Update => true,
         Command::StartLocal => started(sys, io, o.block, o.pb, 2),
         Command::StartSystem => started(sys, io, o.block, o.pb, 4),
-        Command::Suspend => stored(sys, io, o.block, o.pb, 4),
-        Command::Resume => stored(sys, io, o.block, o.pb, 4),
+        Command::Suspend | Command::Resume => stored(sys, io, o.block, o.pb, 4),
         Command::Halt => busy(sys, io, o.block),
         Command::Unknown => true,
     }

@@ -1,8 +1,8 @@
 // Types of the rules of attention.
 #![tactic(auto)]
 
-// What a CCW commands.
-#[derive(Clone, Copy)]
+// What a CCW commands. 010 and 100 are `Unknown`, a command of its own: it is refused by 6, counts nothing and changes nothing.
+#[derive(Clone, Copy, PartialEq, Eq)]
 pub enum Command {
     Update,
     StartLocal,
@@ -14,7 +14,7 @@ pub enum Command {
 }
 
 // What a block orders: the command, its CCW, the block itself and where PB lies.
-#[derive(Clone, Copy)]
+#[derive(Clone, Copy, PartialEq, Eq)]
 pub struct Order {
     pub command: Command,
     pub ccw: u8,

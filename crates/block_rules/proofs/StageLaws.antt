@@ -1,5 +1,6 @@
 -- The channel on the way: its sides, the bytes that its next step moves, and what that step makes of it.
 -- Assumes nothing.
+use Rattle.std.proofs.Common.{None}
 use Prim.Native.Nat.{ℕ, ◌+◌, ◌-◌, ◌/◌, ◌%◌, ◌<◌, ◌≤◌}
 use borrow.Author.Tests.{ltb-true, eqb-false, lt-ltb, le-ltb, eq-eqb, ne_eqb}
 use lib.Dec.{ltb, eqb}
@@ -19,7 +20,6 @@ use Rattle.transfer_rules.proofs.BlockLaws.{Block, carried, word-narrow, one-mov
 use Rattle.ground_rules.proofs.ChoiceLaws.{pick_under, apart, both_left, both_right}
 use Rattle.transfer_rules.specs.Ends.{offset_of, ended_tp, ended_psw, ended_by}
 use Rattle.ground_rules.specs.Updates.{with_transfer, holding}
-use Rattle.ground_rules.specs.declared.Held.TheVariants.{NoByte}
 use Rattle.transfer_rules.specs.Reads.{bytes_fetched, data_of}
 use Rattle.transfer_rules.specs.Sides.{side, source, destination, word_side, gained, two_move}
 use Rattle.transfer_rules.specs.Stores.{count_after, moved_channel}
@@ -183,7 +183,7 @@ unfolding carried midway with_transfer
 carried-mid c n j s e one two fits most =
     λ i. holding (with_transfer c (ga i) (gb i) c.tp (bc i) c.psw) (held i)
   where
-    held : NoByte ≡ held_on c (j + s)
+    held : None ≡ held_on c (j + s)
     held = rw (ne_eqb (j + s) 0 (omega arith))
 
     ga : gained true (onward c.ga j) (bytes_fetched (midway c n j)) ≡ onward c.ga (j + s)
@@ -204,7 +204,7 @@ ends-mid : (c : Channel) (n : ℕ) → 1 ≤ n → (c.fields.countEnd ≡ 0 → 
 unfolding ended_by ended_tp ended_psw midway finished with_transfer gained
 ends-mid c n some ne = λ i. holding (with_transfer c (onward c.ga n) (onward c.gb n) (tp i) (bc i) (psw i)) (held i)
   where
-    held : held_on c n ≡ NoByte
+    held : held_on c n ≡ None
     held = rw (ne_eqb n 0 (omega arith))
 
     tp : gained (not (eqb c.fields.countEnd 0)) c.tp (offset_of c.fields.countEnd) ≡ onward c.tp (offset_of c.fields.countEnd)

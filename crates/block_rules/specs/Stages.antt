@@ -1,5 +1,5 @@
 -- Demand 3, what holds on the way and at the end: the channel's registers and the bytes of both ranges.
-use Rattle.std.specs.Prelude.{Bool, true, false, ◌≡◌, ℕ, ◌+◌, ◌-◌, ◌%◌, ◌<◌, ◌≤◌, length, eqb}
+use Rattle.std.specs.Prelude.{Bool, true, false, ◌≡◌, ℕ, ◌+◌, ◌-◌, ◌%◌, ◌<◌, ◌≤◌, length, eqb, Option, None}
 use Rattle.ground_rules.specs.declared.Pointer.{Pointer}
 use Rattle.ground_rules.specs.Values.{onward}
 use Rattle.ground_rules.specs.Buffers.{Buffers, space_of, byte_at}
@@ -9,16 +9,14 @@ use Rattle.ground_rules.specs.Psw.{transferring, with_psw}
 use Rattle.ground_rules.specs.States.{is_running}
 use Rattle.transfer_rules.specs.Ends.{offset_of}
 use Rattle.ground_rules.specs.Updates.{with_transfer, holding, dropped}
-use Rattle.ground_rules.specs.declared.Held.{Held as HeldByte}
-use Rattle.ground_rules.specs.declared.Held.TheVariants.{NoByte}
 use Rattle.ground_rules.specs.Choice.{pick}
 use Rattle.transfer_rules.specs.Steps.{transfer_of}
 use Rattle.block_rules.specs.Premises.{from, into, Lent}
 use Rattle.block_rules.specs.Totals.{moved_after}
 
 -- what the channel holds when j bytes have moved: what it held at the start, which the first step drops
-abbrev pub held_on : Channel → ℕ → HeldByte
-held_on c j = pick (eqb j 0) c.held NoByte
+abbrev pub held_on : Channel → ℕ → Option ℕ
+held_on c j = pick (eqb j 0) c.held None
 
 -- the channel when j of n bytes have moved: GA and GB on by j, BC n - j, a held byte dropped, every other register as at the start
 unfoldable pub midway : Channel → ℕ → ℕ → Channel

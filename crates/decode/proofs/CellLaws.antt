@@ -1,5 +1,6 @@
 -- The rule of the decoder's table, proved once: the cell of each opcode stands for the rows that the summary has at it, and says whether two bytes more follow.
 -- Assumes nothing.
+use Rattle.std.proofs.Common.{Ok, Err}
 use mathlib.Core.Path.{◌≡◌, refl, sym, ap, subst, ◌∙◌}
 use mathlib.Core.Bool.{true}
 use mathlib.Core.List.{List, [], ◌∷◌}
@@ -16,7 +17,7 @@ use Rattle.instruction_rules.specs.Pairs.{pair_of, columns}
 use Rattle.instruction_rules.specs.Pairs.Column.{'0, '00, '000, '010, '011, '1SD}
 use Rattle.instruction_rules.specs.declared.Pair.{Pair}
 use Rattle.instruction_rules.specs.declared.Shape.TheVariants.{Nop, Sintr, Xfer, Wid}
-use Rattle.instruction_rules.specs.declared.Decoded.TheVariants.{Instruction, NoInstruction}
+use Rattle.instruction_rules.specs.declared.Unread.TheVariants.{NoInstruction}
 use Rattle.instruction_rules.specs.Table.{SummaryRow, table}
 use Rattle.instruction_rules.specs.Reading.{lookup}
 use Rattle.instruction_rules.specs.Lengths.{more_by, two_by, offset_by, long_code, pair_length}
@@ -117,12 +118,12 @@ avoided zero x a = omega arith
 avoided (suc n) x a = lt_of_le-ne (avoided n x a.0) (λ e. a.1 (sym e))
 
 -- a cell whose first digit is none of the sixteen stands for nothing
-pub no-form : (p : Pair) (cell : ℕ) → Avoids (cell / 16) (down_from 16) → lookup (cell_rows p.opcode cell) p ≡ NoInstruction
+pub no-form : (p : Pair) (cell : ℕ) → Avoids (cell / 16) (down_from 16) → lookup (cell_rows p.opcode cell) p ≡ Err NoInstruction
 unfolding lookup cell_rows form_rows
 no-form p cell a =
     ap (λ (rs : List SummaryRow). lookup rs p) (past (form_rows p.opcode (cell % 16)) (cell / 16) [] (avoided 16 (cell / 16) a))
 
 -- a pair with the opcode of the control codes is what one of the four says
-pub control-codes : (p : Pair) → lookup (control_rows p.opcode) p ≡ pick (columns '010 '00 '00 '0 '00 p) (Instruction Sintr) (pick (columns '000 '00 '00 '0 '00 p) (Instruction Nop) (pick (columns '011 '00 '00 '0 '00 p) (Instruction Xfer) (pick (columns '1SD '00 '00 '0 '00 p) (Instruction (Wid (bit_of p.rrr 1) (bit_of p.rrr 0))) NoInstruction)))
+pub control-codes : (p : Pair) → lookup (control_rows p.opcode) p ≡ pick (columns '010 '00 '00 '0 '00 p) (Ok Sintr) (pick (columns '000 '00 '00 '0 '00 p) (Ok Nop) (pick (columns '011 '00 '00 '0 '00 p) (Ok Xfer) (pick (columns '1SD '00 '00 '0 '00 p) (Ok (Wid (bit_of p.rrr 1) (bit_of p.rrr 0))) (Err NoInstruction))))
 unfolding lookup control_rows
 control-codes p = rw (eq-eqb p.opcode p.opcode refl)

@@ -82,6 +82,7 @@ const CELLS: [u8; 64] = [
 ];
 
 // The cell of the opcode in the second byte of a pair.
+#[tactic(auto, unfolding(crate::specs::Cells::cells, crate::specs::Cells::cell_of, ground_rules::specs::Bits::field_of))]
 pub fn cell(second: u8) -> u32
     ensures { result ≡ cell_of second }
 {

@@ -9,12 +9,13 @@ mod reads;
 
 ghost use Rattle.std.specs.Prelude.{◌≡◌, ◌+◌, ◌<◌, eqb, leb};
 ghost use Rattle.instruction_rules.specs.Pairs.{pair_of};
-ghost use Rattle.instruction_rules.specs.Reading.{decode_of, number_of, second_of, second_number_of};
+ghost use Rattle.instruction_rules.specs.Reading.{decode_of, decoded_number, second_of, second_number_of};
 ghost use Rattle.instruction_rules.specs.Lengths.{more_by, two_by, offset_by, offset_length, pair_length};
 ghost use Rattle.decode.specs.Cells.{cell_length};
 
 use decode_shapes::pairs;
-use instruction_rules::{Decoded, Memory, Pair, Second};
+use ground_rules::Refusal;
+use instruction_rules::{Decoded, Memory, Pair};
 
 // What the first two bytes of an instruction are, and its length; the table is read once.
 pub fn look_up(first: u8, second: u8) -> Looked
@@ -36,58 +37,45 @@ pub fn decode(first: u8, second: u8) -> Decoded
     reads::read(cells::cell(second), pairs::split(first, second))
 }
 
-// The number that an answer stands for.
+// The number that an answer stands for; `number-determined` of docs/PROMISES.md is of this function.
 pub fn number(d: Decoded) -> u32
-    ensures { result ≡ number_of d }
+    ensures { result ≡ decoded_number d }
 {
     match d {
-        Decoded::Instruction(_) => 0,
-        Decoded::NoInstruction => 3,
-        Decoded::ControlUsed => 4,
+        Ok(_) => 0,
+        Err(unread) => Refusal::from(unread).number(),
     }
 }
 
-// What the second pair of MOV M,M is, after a first pair with W as `wide` says.
-pub fn decode_second(first: u8, second: u8, wide: bool) -> Second
+// The operand that the second pair of MOV M,M gives, if it is one, after a first pair with W as `wide` says.
+#[tactic(auto, unfolding(instruction_rules::specs::Reading::second_of))]
+pub fn decode_second(first: u8, second: u8, wide: bool) -> Option<Memory>
     ensures { result ≡ second_of first second wide }
 {
     let p = pairs::split(first, second);
     if (p.opcode == 0x33) & ((p.rrr == 0) & ((p.w == wide as u32) & (p.dd == 0))) {
-        Second::Operand(pairs::operand(p))
+        Some(pairs::operand(p))
     } else {
-        Second::NoSecond
+        None
     }
 }
 
-// The number of an answer to a second pair.
-pub fn second_number(s: Second) -> u32
-    ensures { result ≡ second_number_of s }
+// The number of an answer to a second pair; `second-number-determined` is of this function.
+pub fn second_number(second: Option<Memory>) -> u32
+    ensures { result ≡ second_number_of second }
 {
-    match s {
-        Second::Operand(_) => 0,
-        Second::NoSecond => 3,
+    match second {
+        Some(_) => 0,
+        None => Refusal::NotAnInstruction.number(),
     }
-}
-
-// One byte more, or none.
-fn more(test: bool) -> u32
-    ensures { result ≡ more_by test }
-{
-    if test { 1 } else { 0 }
-}
-
-// Two bytes more, or none.
-fn two_more(test: bool) -> u32
-    ensures { result ≡ two_by test }
-{
-    if test { 2 } else { 0 }
 }
 
 // The bytes of an offset: one for AA 01.
+#[tactic(auto, unfolding(instruction_rules::specs::Lengths::offset_length))]
 pub fn offset_length(m: Memory) -> u32
     ensures { result ≡ offset_length m }
 {
-    more(m.aa == 1)
+    words::choose(m.aa == 1, 1, 0)
 }
 
 // The bytes of a pair, of its offset byte and of what dd announces, which is as many as it says and two for TSL's 11: a
@@ -103,11 +91,12 @@ fn announced(dd: u32, aa: u32) -> u32
 }
 
 // The bytes of the instruction that a pair begins, by the cell of its opcode.
+#[tactic(auto, unfolding(crate::specs::Cells::cell_length))]
 fn cell_length(cell: u32, p: Pair) -> u32
     requires { (p.dd < 4) × (p.aa < 4) }
     ensures { result ≡ cell_length cell p }
 {
-    announced(p.dd, p.aa) + two_more(0xF0 <= cell)
+    announced(p.dd, p.aa) + words::choose(0xF0 <= cell, 2, 0)
 }
 
 // The bytes of the instruction that a pair begins; for MOV M,M without the offset byte of its second pair.

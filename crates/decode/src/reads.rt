@@ -5,7 +5,7 @@ ghost use Rattle.decode.specs.Cells.{control_rows, cell_rows};
 
 use crate::cells;
 use decode_shapes::{pairs, rows};
-use instruction_rules::{Decoded, Pair, Shape};
+use instruction_rules::{Decoded, Pair, Shape, Unread};
 
 // The control codes: which one RRR says.
 fn control(p: Pair) -> Decoded
@@ -25,7 +25,7 @@ fn control(p: Pair) -> Decoded
                 destination: words::bit(rrr, 0),
             },
         ),
-        _ => Decoded::NoInstruction,
+        _ => Err(Unread::NoInstruction),
     }
 }
 
@@ -37,7 +37,7 @@ pub fn read(cell: u32, p: Pair) -> Decoded
     let form = cell / 16;
     let digit = cell % 16;
     match form {
-        0x0 => Decoded::NoInstruction,
+        0x0 => Err(Unread::NoInstruction),
         0x1 => if digit == 0 {
             control(p)
         } else {
@@ -65,6 +65,6 @@ pub fn read(cell: u32, p: Pair) -> Decoded
         } else {
             rows::mov_memory(p, m)
         },
-        _ => Decoded::NoInstruction,
+        _ => Err(Unread::NoInstruction),
     }
 }

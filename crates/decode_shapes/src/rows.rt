@@ -6,21 +6,19 @@ ghost use Rattle.instruction_rules.specs.Rows.{reading, is_control};
 ghost use Rattle.instruction_rules.specs.declared.Shape.TheVariants.{Hlt, Lpdi, RegisterImmediate, Register, JumpRegister, RegisterMemory, MemoryRegister, MemoryImmediate, MemoryAlone, JumpMemory, MovMemory, Tsl, Call, JumpMasked, JumpBit, Bit};
 
 use crate::pairs;
-use instruction_rules::{Decoded, Memory, Pair, Shape, Single, Work};
+use instruction_rules::{Decoded, Memory, Pair, Shape, Single, Unread, Work};
 
 // The answer of a row, by whether its columns are met and whether it uses CC.
 pub fn answer(met: bool, control: bool, shape: Shape) -> Decoded
     ensures { result ≡ reading met control shape }
 {
-    if met {
-        if control {
-            Decoded::ControlUsed
-        } else {
-            Decoded::Instruction(shape)
-        }
-    } else {
-        Decoded::NoInstruction
+    if !met {
+        return Err(Unread::NoInstruction);
     }
+    if control {
+        return Err(Unread::ControlUsed);
+    }
+    Ok(shape)
 }
 
 // LPDI.

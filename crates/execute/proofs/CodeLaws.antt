@@ -1,12 +1,12 @@
 -- The laws of an instruction that is worked out before its stores: its number so far, and what comes of it.
 -- Assumes nothing.
-use Rattle.std.proofs.Common.{◌≡◌, ℕ, zero, suc, ◌+◌, ◌-◌, ◌%◌, ◌≤◌, Bool, true, false, ◌&&◌, eqb, length, sym, refl, ap, ◌∙◌, subst, ap₂, arith}
+use Rattle.std.proofs.Common.{◌≡◌, ℕ, zero, suc, ◌+◌, ◌-◌, ◌%◌, ◌≤◌, Bool, true, false, ◌&&◌, eqb, length, sym, refl, ap, ◌∙◌, subst, ap₂, arith, Result, Ok, Err}
 use borrow.Author.Tests.{eqb-false}
 use Rattle.instruction_rules.proofs.LengthLaws.{bounded}
 use Rattle.instruction_rules.specs.Lengths.{length_of}
-use Rattle.instruction_rules.specs.Reading.{number_of}
-use Rattle.instruction_rules.specs.declared.Decoded.{Decoded}
-use Rattle.instruction_rules.specs.declared.Decoded.TheVariants.{Instruction, NoInstruction, ControlUsed}
+use Rattle.instruction_rules.specs.Reading.{decoded_number}
+use Rattle.instruction_rules.specs.Decoded.{Decoded}
+use Rattle.instruction_rules.specs.declared.Unread.TheVariants.{NoInstruction, ControlUsed}
 use Rattle.instruction_rules.specs.declared.Change.{Change}
 use Rattle.instruction_rules.specs.declared.Shape.{Shape}
 use Rattle.ground_rules.proofs.ChoiceLaws.{apart}
@@ -16,6 +16,7 @@ use Rattle.ground_rules.proofs.PlaceLaws.{index-after, touchable-index}
 use Rattle.ground_rules.proofs.SpanLaws.{all_append}
 use Rattle.ground_rules.specs.Buffers.{Buffers, touchable_at}
 use Rattle.ground_rules.specs.Outcomes.{unless, first}
+use Rattle.ground_rules.specs.declared.Refusal.{Refusal}
 use Rattle.ground_rules.specs.Places.{span, all_pass, all_touchable}
 use Rattle.ground_rules.specs.Stages.{stages_number}
 use Rattle.ground_rules.specs.Registers.{with_register}
@@ -29,46 +30,41 @@ use Rattle.instruction_rules.specs.Execute.{decoded_at, deed_of, later_bytes, la
 use Rattle.instruction_rules.specs.Kept.{deed_at}
 use Rattle.instruction_rules.proofs.CountLaws.{deed-most, touched-length}
 use Rattle.instruction_rules.proofs.OutcomeLaws.{refused-by, done-by, number_is}
-use Rattle.execute.specs.Effects.{refusal, channel_worked, change_in, deed_number, Carries, IsDeed, Planned}
+use Rattle.execute.specs.Effects.{channel_worked, change_in, deed_number, Carries, Performs, Prepared, Planned}
 use Rattle.execute.specs.Plan.{later_number, plan_from, plan_number}
 use Rattle.execute.specs.Writes.{write_made}
 use Rattle.execute.specs.declared.Effect.{Effect}
 use Rattle.execute.specs.declared.Finding.{Finding}
 use Rattle.execute.specs.declared.Write.{Write}
 
--- a refusal by a number other than 0 is as planned
-pub refusal-planned : {number n own : ℕ} {c : Channel} {d : Deed} {e : Effect} → e ≡ refusal n → n ≡ number → (n ≡ 0 → ⊥) → Planned c number own d e
-refusal-planned r e ne = record { told = ap (λ (x : Effect). x.number) r ∙ e; reads = λ z. absurd (ne (e ∙ z)); carries = λ z. absurd (ne (e ∙ z)) }
+-- an effect with its own bytes among those that are read
+abbrev pub effect_settled : ℕ → Effect → Effect
+effect_settled reads e =
+    record { more = e.more; reads = reads; tp = e.tp; ix = e.ix; psw = e.psw; halts = e.halts; armed = e.armed; write = e.write; count = e.count; space = e.space; address = e.address; value = e.value }
 
--- a register that is named is written, and where none is the channel stays
-pub named-written : (c : Channel) (w : Write) → w.any ≡ true → with_register c w.rrr w.value w.tag ≡ write_made c w
-unfolding write_made
-named-written c w e = rw e
-
-pub none_written : (c : Channel) (w : Write) → w.any ≡ false → c ≡ write_made c w
-unfolding write_made
-none_written c w e = rw e
-
--- an effect with its number, and with its own bytes among those that are read
-abbrev pub effect_settled : ℕ → ℕ → Effect → Effect
-effect_settled number reads e =
-    record { number = number; more = e.more; reads = reads; tp = e.tp; ix = e.ix; psw = e.psw; halts = e.halts; armed = e.armed; write = e.write; count = e.count; space = e.space; address = e.address; value = e.value }
-
-carries-effect_settled : {c : Channel} {d : Deed} (number reads : ℕ) (e : Effect) → Carries c d e → Carries c d (effect_settled number reads e)
+carries-effect_settled : {c : Channel} {d : Deed} (reads : ℕ) (e : Effect) → Carries c d e → Carries c d (effect_settled reads e)
 unfolding channel_worked
-carries-effect_settled number reads e h = record { channel = h.channel; change = h.change }
+carries-effect_settled reads e h = record { channel = h.channel; change = h.change }
 
--- what does a deed is planned so, once the bytes of its operand are tested and its own bytes counted
-pub does-planned : {c : Channel} {d : Deed} {f : Finding} (m : Buffers) (e : Effect) (number own n count reads : ℕ) → IsDeed m c f d e → number ≡ deed_number m d
-    → n ≡ first e.number (unless (all_touchable m (span f.space f.at e.reads)) 2) → count ≡ own
+-- what does a deed is ready, once the bytes of its operand are tested and its own bytes counted
+pub does-planned : {c : Channel} {d : Deed} {f : Finding} (m : Buffers) (e : Effect) (number own count reads : ℕ) → Performs m c f d e → number ≡ deed_number m d
+    → all_touchable m (span f.space f.at e.reads) ≡ true → count ≡ own
     → reads ≡ (count + (e.more + e.reads) % 4294967296) % 4294967296 → own + length d.reads ≤ 10
-    → Planned c number own d (effect_settled n reads e)
-does-planned m e number own n count reads h is tested long sum few =
+    → Prepared c number own d (effect_settled reads e)
+unfolding unless
+does-planned m e number own count reads h is tested long sum few =
+    let none = sym (ap (λ (b : Bool). unless b 2) tested) ∙ h.told in
     record {
-      told = tested ∙ h.told ∙ sym is;
-      reads = λ z. let r = h.reads (sym is ∙ z) in omega (arith, r, long, sum, few);
-      carries = λ z. carries-effect_settled n reads e (h.carries (sym is ∙ z));
+      told = is ∙ sym none;
+      reads = let r = h.reads (sym none) in omega (arith, r, long, sum, few);
+      carries = carries-effect_settled reads e (h.carries (sym none));
     }
+
+-- and refused by 2 where a byte of its operand may not be touched
+pub does-beyond : {c : Channel} {d : Deed} {f : Finding} (m : Buffers) (e : Effect) (number : ℕ) → Performs m c f d e → number ≡ deed_number m d
+    → all_touchable m (span f.space f.at e.reads) ≡ false → 2 ≡ number
+unfolding unless
+does-beyond m e number h is beyond = sym (ap (λ (b : Bool). unless b 2) beyond) ∙ h.told ∙ sym is
 
 -- bytes in a row may be touched wherever their first address is reduced
 span-after : (m : Buffers) (t : Bool) (a k n : ℕ) → all_touchable m (span t (a % 1048576 + k) n) ≡ all_touchable m (span t (a + k) n)
@@ -124,7 +120,7 @@ hidden x k false e = (refl, eqb-false 2 0 refl)
 module _ (m : Buffers) (c : Channel) (busy : ℕ) where
   -- the number of an instruction of some shape
   abbrev pub shaped_number : Shape → ℕ
-  shaped_number s = first (unless (all_touchable m (bytes_at c.tp 2)) 2) (later_number (Instruction s) m c busy)
+  shaped_number s = first (unless (all_touchable m (bytes_at c.tp 2)) 2) (later_number (Ok s) m c busy)
 
   own-bytes : (s : Shape) → all_touchable m (span c.tp.tag c.tp.address (length_of s)) ≡ (all_touchable m (bytes_at c.tp 2) && all_touchable m (later_bytes s c))
   unfolding later_bytes onward
@@ -141,24 +137,24 @@ module _ (m : Buffers) (c : Channel) (busy : ℕ) where
   own-touched s h = both-passed (deed_number m (deed_of s m c busy)) (all_touchable m (bytes_at c.tp 2)) (all_touchable m (later_bytes s c)) (sym (own-bytes s) ∙ h)
 
   -- what is no instruction is refused by 2 or by its own number
-  none_from : (d : Decoded) → ((s : Shape) → d ≡ Instruction s → ⊥) → let n = first (unless (all_touchable m (bytes_at c.tp 2)) 2) (number_of d) in (n ≡ plan_from d m c busy) × (n ≡ 0 → ⊥)
+  none_from : (d : Decoded) → ((s : Shape) → d ≡ Ok s → ⊥) → let n = first (unless (all_touchable m (bytes_at c.tp 2)) 2) (decoded_number d) in (n ≡ plan_from d m c busy) × (n ≡ 0 → ⊥)
   unfolding plan_from
-  none_from (Instruction s) h = absurd (h s refl)
-  none_from NoInstruction h = hidden (later_number NoInstruction m c busy) 3 (all_touchable m (bytes_at c.tp 2)) refl
-  none_from ControlUsed h = hidden (later_number ControlUsed m c busy) 4 (all_touchable m (bytes_at c.tp 2)) refl
+  none_from (Ok s) h = absurd (h s refl)
+  none_from (Err NoInstruction) h = hidden (later_number (Err NoInstruction) m c busy) 3 (all_touchable m (bytes_at c.tp 2)) refl
+  none_from (Err ControlUsed) h = hidden (later_number (Err ControlUsed) m c busy) 4 (all_touchable m (bytes_at c.tp 2)) refl
 
-  pub plan-none : (d : Decoded) → ((s : Shape) → d ≡ Instruction s → ⊥) → decoded_at m c.tp ≡ d → let n = first (unless (all_touchable m (bytes_at c.tp 2)) 2) (number_of d) in (n ≡ plan_number m c busy) × (n ≡ 0 → ⊥)
+  pub plan-none : (d : Decoded) → ((s : Shape) → d ≡ Ok s → ⊥) → decoded_at m c.tp ≡ d → let n = first (unless (all_touchable m (bytes_at c.tp 2)) 2) (decoded_number d) in (n ≡ plan_number m c busy) × (n ≡ 0 → ⊥)
   unfolding plan_number
   plan-none d h e = rw e (none_from d h)
 
   -- what is one is as planned
-  shaped_from : (d : Decoded) {e : Effect} (s : Shape) → d ≡ Instruction s → Planned c (shaped_number s) (length_of s) (deed_of s m c busy) e → Planned c (plan_from d m c busy) (length_from d) (deed_from d m c busy) e
+  shaped_from : (d : Decoded) (r : Result Effect Refusal) (s : Shape) → d ≡ Ok s → Planned c (shaped_number s) (length_of s) (deed_of s m c busy) r → Planned c (plan_from d m c busy) (length_from d) (deed_from d m c busy) r
   unfolding plan_from deed_from length_from first
-  shaped_from d s i p = rw i p
+  shaped_from d r s i p = rw i p
 
-  pub plan-shaped : {e : Effect} (s : Shape) → decoded_at m c.tp ≡ Instruction s → Planned c (shaped_number s) (length_of s) (deed_of s m c busy) e → Planned c (plan_number m c busy) (length_from (decoded_at m c.tp)) (deed_at m c busy) e
+  pub plan-shaped : (r : Result Effect Refusal) (s : Shape) → decoded_at m c.tp ≡ Ok s → Planned c (shaped_number s) (length_of s) (deed_of s m c busy) r → Planned c (plan_number m c busy) (length_from (decoded_at m c.tp)) (deed_at m c busy) r
   unfolding plan_number
-  plan-shaped s i p = shaped_from (decoded_at m c.tp) s i p
+  plan-shaped r s i p = shaped_from (decoded_at m c.tp) r s i p
 
   -- ---- the stores
 

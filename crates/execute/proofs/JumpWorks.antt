@@ -1,6 +1,6 @@
 -- What the code makes of the instructions that jump is their deed, and CALL counts from the end of its instruction.
 -- Assumes nothing.
-use Rattle.std.proofs.Common.{◌≡◌, ℕ, ◌+◌, ◌/◌, ◌%◌, Bool, true, false, eqb, sym, refl, ◌∙◌, ne_eqb}
+use Rattle.std.proofs.Common.{◌≡◌, ℕ, ◌+◌, ◌/◌, ◌%◌, Bool, true, false, eqb, sym, refl, ◌∙◌, ne_eqb, None}
 use Rattle.ground_rules.proofs.PlaceLaws.{index-after, byte-index}
 use Rattle.ground_rules.specs.Bits.{bit_of}
 use Rattle.ground_rules.specs.Buffers.{Buffers, AllBytes, byte_at}
@@ -24,7 +24,7 @@ use Rattle.instruction_rules.specs.declared.Shape.TheVariants.{JumpRegister, Jum
 use Rattle.execute.specs.Bytes.{operand_of_four, landing_by, grown_ix}
 use Rattle.execute.specs.Effects.{leaving, storing_there, jumping, channel_worked, Works}
 use Rattle.execute.specs.Findings.{naming_of, behind_at, index_named, place_named, finding_of}
-use Rattle.execute.specs.Writes.{no_write, write_made}
+use Rattle.execute.specs.Writes.{write_made}
 use Rattle.execute.specs.declared.Finding.{Finding}
 use Rattle.execute.proofs.ControlWorks.{spelled}
 use Rattle.execute.proofs.WindowLaws.{byte-sum, four-first, four-second, operand-is, behind-landing}
@@ -68,14 +68,14 @@ module _ (f : Finding) (m : Buffers) (c : Channel) where
       → Works (JumpRegister zero r two) busy f m c (leaving (pick (agrees zero (eqb (f.value % 65536) 0)) (landing_by f.tp f.behind two) f.tp) f.ix f.psw false 0)
   unfolding deed_of performed jump_register_deed jumped_if past_instruction renewed onward finding_of naming_of channel_worked write_made span
   works-jump-register zero r two busy known found =
-      rw found (spelled m c _ _ _ refl refl (rw (led m known (past (length_of (JumpRegister zero r two))) c.tp 0) refl))
+      rw found (spelled m c _ _ _ refl (rw (led m known (past (length_of (JumpRegister zero r two))) c.tp 0) refl))
 
   -- JZ and JNZ on a memory operand
   pub works-jump-memory : (zero : Bool) (o : Memory) (two : Bool) (busy : ℕ)
       → Works (JumpMemory zero o two) busy f m c (leaving (pick (agrees zero (eqb (operand_of_four f.operand o.wide) 0)) (landing_by f.tp f.behind two) f.tp) (grown_ix o f.ix (size_of o.wide)) f.psw false (size_of o.wide))
   unfolding deed_of performed jump_memory_deed jumped_if grown grown_ix past_instruction renewed onward finding_of naming_of place_named index_named indexed effective base_of offset_length channel_worked write_made
   works-jump-memory zero o two busy known found =
-      rw found (spelled m c _ _ _ refl refl (rw (led m known (past (length_of (JumpMemory zero o two))) c.tp o.aa, operand-is m known (place o) o.wide) refl))
+      rw found (spelled m c _ _ _ refl (rw (led m known (past (length_of (JumpMemory zero o two))) c.tp o.aa, operand-is m known (place o) o.wide) refl))
 
   -- JMCE and JMCNE, JBT and JNBT: on a byte
   pub works-jump-masked : (equal : Bool) (o : Memory) (two : Bool) (busy : ℕ)
@@ -83,21 +83,21 @@ module _ (f : Finding) (m : Buffers) (c : Channel) where
   unfolding deed_of performed jump_masked_deed jump_byte_deed jumped_if grown grown_ix past_instruction renewed onward finding_of naming_of place_named index_named indexed effective base_of offset_length channel_worked write_made
   works-jump-masked equal o two busy known found =
       let p = place o in
-      rw found (spelled m c _ _ _ refl refl (rw (led m known (past (length_of (JumpMasked equal o two))) c.tp o.aa, four-first m known p.tag p.address) refl))
+      rw found (spelled m c _ _ _ refl (rw (led m known (past (length_of (JumpMasked equal o two))) c.tp o.aa, four-first m known p.tag p.address) refl))
 
   pub works-jump-bit : (set : Bool) (bit : ℕ) (o : Memory) (two : Bool) (busy : ℕ)
       → Works (JumpBit set bit o two) busy f m c (jumping f (agrees set (bit_of (f.operand % 256) bit)) o two)
   unfolding deed_of performed jump_bit_deed jump_byte_deed jumped_if grown grown_ix past_instruction renewed onward finding_of naming_of place_named index_named indexed effective base_of offset_length channel_worked write_made
   works-jump-bit set bit o two busy known found =
       let p = place o in
-      rw found (spelled m c _ _ _ refl refl (rw (led m known (past (length_of (JumpBit set bit o two))) c.tp o.aa, four-first m known p.tag p.address) refl))
+      rw found (spelled m c _ _ _ refl (rw (led m known (past (length_of (JumpBit set bit o two))) c.tp o.aa, four-first m known p.tag p.address) refl))
 
   -- CALL
   pub works-call : (o : Memory) (two : Bool) (busy : ℕ)
-      → Works (Call o two) busy f m c (record { number = 0; more = 0; reads = 0; tp = landing_by f.tp f.behind two; ix = grown_ix o f.ix 3; psw = f.psw; halts = false; armed = false; write = no_write; count = 3; space = f.space; address = f.at; value = stored_value (pointer f.tp f.code) })
+      → Works (Call o two) busy f m c (record { more = 0; reads = 0; tp = landing_by f.tp f.behind two; ix = grown_ix o f.ix 3; psw = f.psw; halts = false; armed = false; write = None; count = 3; space = f.space; address = f.at; value = stored_value (pointer f.tp f.code) })
   unfolding deed_of performed call_deed jumped_if grown grown_ix past_instruction renewed onward finding_of naming_of place_named index_named indexed effective base_of offset_length channel_worked write_made span
   works-call o two busy known found =
-      rw found (spelled m c _ _ _ refl refl (rw (led m known (past (length_of (Call o two))) c.tp o.aa true) refl))
+      rw found (spelled m c _ _ _ refl (rw (led m known (past (length_of (Call o two))) c.tp o.aa true) refl))
 
   -- TSL, where the byte is 0 and where it is not
   pub works-tsl-stored : (o : Memory) (busy : ℕ) → f.operand % 256 ≡ 0 → Works (Tsl o) busy f m c (storing_there f (grown_ix o f.ix 1) 1 1 (f.behind % 256))
@@ -105,11 +105,11 @@ module _ (f : Finding) (m : Buffers) (c : Channel) where
   works-tsl-stored o busy none known found =
       let p = place o in
       let e : byte_at m p.tag p.address ≡ 0 = sym (four-first m known p.tag p.address) ∙ (rw found at none) in
-      rw found (spelled m c _ _ _ refl refl (rw (e, data-behind m known c.tp o.aa) refl))
+      rw found (spelled m c _ _ _ refl (rw (e, data-behind m known c.tp o.aa) refl))
 
   pub works-tsl-led : (o : Memory) (busy : ℕ) → (f.operand % 256 ≡ 0 → ⊥) → Works (Tsl o) busy f m c (leaving (landing_by f.tp (f.behind / 256) false) (grown_ix o f.ix 1) f.psw false 1)
   unfolding deed_of performed tsl_deed jumped_if grown grown_ix past_instruction renewed onward finding_of naming_of place_named index_named indexed effective base_of offset_length channel_worked write_made
   works-tsl-led o busy some known found =
       let p = place o in
       let e : eqb (byte_at m p.tag p.address) 0 ≡ false = ne_eqb (byte_at m p.tag p.address) 0 (λ z. (rw found at some) (four-first m known p.tag p.address ∙ z)) in
-      rw found (spelled m c _ _ _ refl refl (rw (e, led-behind m known (past (length_of (Tsl o))) c.tp o.aa) refl))
+      rw found (spelled m c _ _ _ refl (rw (e, led-behind m known (past (length_of (Tsl o))) c.tp o.aa) refl))

@@ -1,6 +1,6 @@
 -- What stores into memory does the deeds of the rules: the effect of each such instruction in numbers.
 -- Assumes nothing.
-use Rattle.std.proofs.Common.{◌≡◌, ℕ, ◌+◌, ◌/◌, ◌%◌, Bool, false, ◌&&◌, eqb, ◌++◌, length, sym, refl, ap, ◌∙◌, subst, arith, length-append}
+use Rattle.std.proofs.Common.{◌≡◌, ℕ, ◌+◌, ◌/◌, ◌%◌, Bool, false, ◌&&◌, eqb, ◌++◌, length, sym, refl, ap, ◌∙◌, subst, arith, length-append, Option, None, Result, true}
 use Rattle.ground_rules.proofs.OutcomeLaws.{first-right, both-tested}
 use Rattle.ground_rules.proofs.PlaceLaws.{index-after, byte-index, byte-reduced}
 use Rattle.ground_rules.proofs.SpanLaws.{span-length, all_append}
@@ -13,6 +13,7 @@ use Rattle.ground_rules.specs.Sums.{sum20}
 use Rattle.ground_rules.specs.Updates.{renewed}
 use Rattle.ground_rules.specs.Values.{pointer, onward}
 use Rattle.ground_rules.specs.declared.Channel.{Channel}
+use Rattle.ground_rules.specs.declared.Refusal.{Refusal}
 use Rattle.ground_rules.specs.declared.Pointer.{Pointer}
 use Rattle.instruction_rules.specs.Changes.{result_to, stored_value}
 use Rattle.instruction_rules.specs.Deeds.{Deed}
@@ -23,15 +24,13 @@ use Rattle.instruction_rules.specs.MemoryForms.{read_first, worked_back, memory_
 use Rattle.instruction_rules.specs.Operands.{byte_here, bytes_at, further, after_pair, size_of, indexed, effective, grown, single_of}
 use Rattle.instruction_rules.specs.Reading.{second_of, second_number_of}
 use Rattle.instruction_rules.specs.declared.Memory.{Memory}
-use Rattle.instruction_rules.specs.declared.Second.{Second}
-use Rattle.instruction_rules.specs.declared.Second.TheVariants.{NoSecond}
 use Rattle.instruction_rules.specs.declared.Shape.TheVariants.{MemoryRegister, MemoryImmediate, MemoryAlone, MovpStore, MovMemory, Bit}
 use Rattle.instruction_rules.specs.declared.Single.{Single}
 use Rattle.instruction_rules.specs.declared.Work.{Work}
 use Rattle.execute.specs.Bytes.{four_at, operand_of_four, grown_ix}
-use Rattle.execute.specs.Effects.{refusal, storing_there, work_stored, channel_worked, deed_number, IsDeed, Works}
+use Rattle.execute.specs.Effects.{storing_there, work_stored, channel_worked, deed_number, Carries, Performs, DoesOr, Works, WorksOr}
 use Rattle.execute.specs.Findings.{naming_of, behind_at, finding_of}
-use Rattle.execute.specs.Writes.{no_write, write_made}
+use Rattle.execute.specs.Writes.{write_made}
 use Rattle.execute.specs.declared.Effect.{Effect}
 use Rattle.execute.specs.declared.Finding.{Finding}
 use Rattle.execute.proofs.WindowLaws.{byte-sum, four-first, four-second, four-third, operand-is, behind-operand}
@@ -39,7 +38,7 @@ use Rattle.execute.proofs.RegisterWorks.{place_found, found_both, found-both, do
 
 -- the work of a memory operand and another value, stored back
 works-back : (work : Work) (o : Memory) (m : Buffers) (c : Channel) (n r v u : ℕ) (f : Finding) → AllBytes m → f ≡ found_both m c n r o → v ≡ u
-    → IsDeed m c f (memory_work_deed m (past_instruction c n) c.tp work o u) (work_stored f work o v)
+    → Performs m c f (memory_work_deed m (past_instruction c n) c.tp work o u) (work_stored f work o v)
 unfolding memory_work_deed worked_back
 works-back work o m c n r v u f known e h =
     does-store m c n r o f e (size_of o.wide) (read_first work o.wide) (size_of o.wide) _ _ (rw (e, h) (rw (operand-is m known (place_found m c n o))))
@@ -110,11 +109,10 @@ offset-behind : (m : Buffers) (p : Pointer) (o : Memory) → AllBytes m → behi
 unfolding behind_at offset_length
 offset-behind m p o known = four-third m known p.tag (p.address + (2 + offset_length o)) ∙ byte-behind m p o 2
 
--- MOV M,M, its second operand q being read
-pub does-mov-operand : (m : Buffers) (c : Channel) (o q : Memory) (f : Finding) → AllBytes m → f ≡ finding_of m c (MovMemory o) (length_of (MovMemory o))
-    → IsDeed m c f (mov_operand_deed m (past_instruction c (length_of (MovMemory o))) c.tp o q)
-    (record {
-      number = unless (all_touchable m (span f.code f.tp (offset_length q))) 2;
+-- what MOV M,M does with its second operand q
+abbrev pub operand_moved : Channel → Memory → Memory → Finding → Effect
+operand_moved c o q f =
+    record {
       more = offset_length q;
       reads = size_of o.wide;
       tp = sum20 f.tp (offset_length q);
@@ -122,14 +120,24 @@ pub does-mov-operand : (m : Buffers) (c : Channel) (o q : Memory) (f : Finding) 
       psw = f.psw;
       halts = false;
       armed = false;
-      write = no_write;
+      write = None;
       count = size_of o.wide;
       space = (base_of c q.mm).tag;
       address = sum20 (base_of c q.mm).address (pick (eqb q.aa 0) 0 (pick (eqb q.aa 1) (f.behind / 65536 % 256) (grown_ix o f.ix (size_of o.wide))));
       value = operand_of_four f.operand o.wide;
-    })
+    }
+
+-- an effect behind a test of its offset byte is a deed: by the test, then by the bytes of the operand
+record DoesBehind (m : Buffers) (c : Channel) (f : Finding) (d : Deed) (number : ℕ) (e : Effect) : Type 0 where
+  told : first number (unless (all_touchable m (span f.space f.at e.reads)) 2) ≡ deed_number m d
+  reads : deed_number m d ≡ 0 → e.more + e.reads ≡ length d.reads
+  carries : deed_number m d ≡ 0 → Carries c d e
+
+-- MOV M,M, its second operand q being read
+behind-mov-operand : (m : Buffers) (c : Channel) (o q : Memory) (f : Finding) → AllBytes m → f ≡ finding_of m c (MovMemory o) (length_of (MovMemory o))
+    → DoesBehind m c f (mov_operand_deed m (past_instruction c (length_of (MovMemory o))) c.tp o q) (unless (all_touchable m (span f.code f.tp (offset_length q))) 2) (operand_moved c o q f)
 unfolding mov_operand_deed naming_of deed_number first past_instruction renewed onward further grown grown_ix indexed effective base_of channel_worked write_made
-does-mov-operand m c o q f known e =
+behind-mov-operand m c o q f known e =
     let n = length_of (MovMemory o) in
     let at = place_found m c n o in
     let pair = after_pair c.tp o in
@@ -144,18 +152,35 @@ does-mov-operand m c o q f known e =
     ∙ ap (λ (x : ℕ). result_to (effective m c₁ q pair) o.wide x) (operand-is m known at o.wide) in
     rw (e ∙ found-both m c (MovMemory o) n 7 o refl) (record { told = told; reads = λ z. counted; carries = λ z. record { channel = refl; change = changed } })
 
+-- its offset byte may be touched, or it is refused
+module _ (m : Buffers) (c : Channel) (o q : Memory) (f : Finding) where
+  abbrev pub MovDeed : Deed
+  MovDeed = mov_operand_deed m (past_instruction c (length_of (MovMemory o))) c.tp o q
+
+  pub does-mov-operand : all_touchable m (span f.code f.tp (offset_length q)) ≡ true → AllBytes m → f ≡ finding_of m c (MovMemory o) (length_of (MovMemory o)) → Performs m c f MovDeed (operand_moved c o q f)
+  unfolding first unless
+  does-mov-operand h known e =
+      let does = subst (λ (b : Bool). DoesBehind m c f MovDeed (unless b 2) (operand_moved c o q f)) h (behind-mov-operand m c o q f known e) in
+      record { told = does.told; reads = does.reads; carries = does.carries }
+
+  pub refuses-mov-operand : all_touchable m (span f.code f.tp (offset_length q)) ≡ false → AllBytes m → f ≡ finding_of m c (MovMemory o) (length_of (MovMemory o)) → 2 ≡ deed_number m MovDeed
+  unfolding first unless
+  refuses-mov-operand h known e =
+      let does = subst (λ (b : Bool). DoesBehind m c f MovDeed (unless b 2) (operand_moved c o q f)) h (behind-mov-operand m c o q f known e) in
+      does.told
+
 -- MOV M,M, its second pair being one or none
-pub works-mov-memory : (o : Memory) (busy : ℕ) (m : Buffers) (c : Channel) (f : Finding) (second : Second) (r : Effect)
+pub works-mov-memory : (o : Memory) (busy : ℕ) (m : Buffers) (c : Channel) (f : Finding) (second : Option Memory) (r : Result Effect Refusal)
     → second ≡ second_of (f.behind % 256) (f.behind / 256 % 256) o.wide
-    → (AllBytes m → f ≡ finding_of m c (MovMemory o) (length_of (MovMemory o)) → IsDeed m c f (mov_second_deed m (past_instruction c (length_of (MovMemory o))) c.tp o second) r)
-    → Works (MovMemory o) busy f m c r
+    → (AllBytes m → f ≡ finding_of m c (MovMemory o) (length_of (MovMemory o)) → DoesOr m c f (mov_second_deed m (past_instruction c (length_of (MovMemory o))) c.tp o second) r)
+    → WorksOr (MovMemory o) busy f m c r
 unfolding deed_of performed mov_memory_deed finding_of naming_of
 works-mov-memory o busy m c f second r told does known e =
     let past = past_instruction c (length_of (MovMemory o)) in
     let found = ap (λ (x : Finding). second_of (x.behind % 256) (x.behind / 256 % 256) o.wide) e ∙ second-behind m c.tp o known in
-    subst (λ (d : Deed). IsDeed m c f d r) (ap (mov_second_deed m past c.tp o) (told ∙ found)) (does known e)
+    subst (λ (d : Deed). DoesOr m c f d r) (ap (mov_second_deed m past c.tp o) (told ∙ found)) (does known e)
 
 -- one that is none refuses
-pub does-refuse : (m : Buffers) (c : Channel) (f : Finding) (o : Memory) → IsDeed m c f (mov_second_deed m (past_instruction c (length_of (MovMemory o))) c.tp o NoSecond) (refusal (second_number_of NoSecond))
+pub does-refuse : (m : Buffers) (c : Channel) (o : Memory) → 3 ≡ deed_number m (mov_second_deed m (past_instruction c (length_of (MovMemory o))) c.tp o None)
 unfolding mov_second_deed deed_number first
-does-refuse m c f o = record { told = refl; reads = λ z. absurd (omega (arith, z)); carries = λ z. absurd (omega (arith, z)) }
+does-refuse m c o = refl

@@ -1,6 +1,6 @@
 -- What an instruction finds in the words of the rules, and the effects of the instructions whose result goes into a register: they are the deeds of the rules.
 -- Assumes nothing.
-use Rattle.std.proofs.Common.{◌≡◌, ℕ, ◌+◌, ◌/◌, ◌%◌, Bool, true, false, ◌||◌, [], length, refl, ap, ◌∙◌, arith}
+use Rattle.std.proofs.Common.{◌≡◌, ℕ, ◌+◌, ◌/◌, ◌%◌, Bool, true, false, ◌||◌, [], length, refl, ap, ◌∙◌, arith, Some}
 use Rattle.ground_rules.proofs.SpanLaws.{span-length}
 use Rattle.ground_rules.specs.Buffers.{Buffers}
 use Rattle.ground_rules.specs.Choice.{pick}
@@ -26,7 +26,7 @@ use Rattle.instruction_rules.specs.declared.Shape.TheVariants.{Lpdi, RegisterImm
 use Rattle.instruction_rules.specs.declared.Single.{Single}
 use Rattle.instruction_rules.specs.declared.Work.{Work}
 use Rattle.execute.specs.Bytes.{four_at, operand_of_four, grown_ix}
-use Rattle.execute.specs.Effects.{writing, storing_there, channel_worked, deed_number, IsDeed, Works}
+use Rattle.execute.specs.Effects.{writing, storing_there, channel_worked, deed_number, Performs, Works}
 use Rattle.execute.specs.Findings.{naming_both, naming_of, behind_at, index_named, place_named, finding_of}
 use Rattle.execute.specs.Writes.{write_to, write_made}
 use Rattle.execute.specs.declared.Finding.{Finding}
@@ -86,19 +86,19 @@ read_all t a n = omega (arith, span-length t a n)
 
 -- an instruction with an operand writes a register, or stores some bytes there
 module _ (m : Buffers) (c : Channel) (n r : ℕ) (o : Memory) (f : Finding) (e : f ≡ found_both m c n r o) (by reads : ℕ) where
-  pub does-write : (w : Write) (after : Channel) → write_made (grown (past_instruction c n) o by) w ≡ after
-      → IsDeed m c f (deed (bytes_at (place_found m c n o) reads) after nothing) (writing f (grown_ix o f.ix by) reads w)
+  pub does-write : (w : Write) (after : Channel) → write_made (grown (past_instruction c n) o by) (Some w) ≡ after
+      → Performs m c f (deed (bytes_at (place_found m c n o) reads) after nothing) (writing f (grown_ix o f.ix by) reads w)
   unfolding deed_number first past_instruction renewed onward grown grown_ix channel_worked
   does-write w after h = rw e (record { told = refl; reads = λ z. read_all _ _ reads; carries = λ z. record { channel = h; change = refl } })
 
   pub does-store : (count v u : ℕ) → v ≡ u
-      → IsDeed m c f (deed (bytes_at (place_found m c n o) reads) (grown (past_instruction c n) o by) (change count (place_found m c n o) u)) (storing_there f (grown_ix o f.ix by) reads count v)
+      → Performs m c f (deed (bytes_at (place_found m c n o) reads) (grown (past_instruction c n) o by) (change count (place_found m c n o) u)) (storing_there f (grown_ix o f.ix by) reads count v)
   unfolding deed_number first past_instruction renewed onward grown grown_ix channel_worked write_made
   does-store count v u h = rw e (record { told = refl; reads = λ z. read_all _ _ reads; carries = λ z. record { channel = refl; change = ap (λ (x : ℕ). change count (place_found m c n o) x) h } })
 
 -- one without an operand writes a register
-does-write-alone : (m : Buffers) (c : Channel) (s : Shape) (n : ℕ) (f : Finding) (w : Write) (after : Channel) → f ≡ finding_of m c s n → write_made (past_instruction c n) w ≡ after
-    → IsDeed m c f (deed [] after nothing) (writing f f.ix 0 w)
+does-write-alone : (m : Buffers) (c : Channel) (s : Shape) (n : ℕ) (f : Finding) (w : Write) (after : Channel) → f ≡ finding_of m c s n → write_made (past_instruction c n) (Some w) ≡ after
+    → Performs m c f (deed [] after nothing) (writing f f.ix 0 w)
 unfolding deed_number first span all_pass finding_of past_instruction renewed onward channel_worked
 does-write-alone m c s n f w after e h = rw e (record { told = refl; reads = λ z. refl; carries = λ z. record { channel = h; change = refl } })
 

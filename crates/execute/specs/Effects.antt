@@ -1,12 +1,14 @@
 -- What the code works out of an instruction, in numbers, and when that is what its deed says.
-use Rattle.std.specs.Prelude.{◌≡◌, ℕ, ◌+◌, Bool, false, length}
+use Rattle.std.specs.Prelude.{◌≡◌, ℕ, ◌+◌, Bool, false, length, Some, None, Result, Ok, Err}
 use Rattle.ground_rules.specs.Buffers.{Buffers, AllBytes}
 use Rattle.ground_rules.specs.Choice.{pick}
 use Rattle.ground_rules.specs.Outcomes.{first, unless}
 use Rattle.ground_rules.specs.Places.{span, all_touchable}
+use Rattle.ground_rules.specs.Refusals.{number_of}
 use Rattle.ground_rules.specs.Updates.{renewed, dropped}
 use Rattle.ground_rules.specs.Values.{pointer}
 use Rattle.ground_rules.specs.declared.Channel.{Channel}
+use Rattle.ground_rules.specs.declared.Refusal.{Refusal}
 use Rattle.ground_rules.specs.declared.Mode.TheVariants.{Idle}
 use Rattle.instruction_rules.specs.Changes.{change}
 use Rattle.instruction_rules.specs.Deeds.{Deed}
@@ -20,32 +22,31 @@ use Rattle.instruction_rules.specs.declared.Shape.{Shape}
 use Rattle.instruction_rules.specs.declared.Work.{Work}
 use Rattle.execute.specs.Bytes.{operand_of_four, landing_by, grown_ix}
 use Rattle.execute.specs.Findings.{finding_of}
-use Rattle.execute.specs.Writes.{no_write, write_made}
+use Rattle.execute.specs.Writes.{write_made}
 use Rattle.execute.specs.declared.Effect.{Effect}
 use Rattle.execute.specs.declared.Finding.{Finding}
 use Rattle.execute.specs.declared.Write.{Write}
 
 -- ---- the effects of the families
 
--- a refusal: nothing stored or written
-abbrev pub refusal : ℕ → Effect
-refusal number =
-    record { number = number; more = 0; reads = 0; tp = 0; ix = 0; psw = 0; halts = false; armed = false; write = no_write; count = 0; space = false; address = 0; value = 0 }
-
 -- another TP, IX, PSW and mark, and nothing else
 abbrev pub leaving : ℕ → ℕ → ℕ → Bool → ℕ → Effect
 leaving tp ix psw armed reads =
-    record { number = 0; more = 0; reads = reads; tp = tp; ix = ix; psw = psw; halts = false; armed = armed; write = no_write; count = 0; space = false; address = 0; value = 0 }
+    record { more = 0; reads = reads; tp = tp; ix = ix; psw = psw; halts = false; armed = armed; write = None; count = 0; space = false; address = 0; value = 0 }
+
+-- past the instruction, and nothing else
+abbrev pub going_past : Finding → Effect
+going_past f = leaving f.tp f.ix f.psw false 0
 
 -- a register that is written
 abbrev pub writing : Finding → ℕ → ℕ → Write → Effect
 writing f ix reads w =
-    record { number = 0; more = 0; reads = reads; tp = f.tp; ix = ix; psw = f.psw; halts = false; armed = false; write = w; count = 0; space = false; address = 0; value = 0 }
+    record { more = 0; reads = reads; tp = f.tp; ix = ix; psw = f.psw; halts = false; armed = false; write = Some w; count = 0; space = false; address = 0; value = 0 }
 
 -- some bytes of a value, stored where the operand lies
 abbrev pub storing_there : Finding → ℕ → ℕ → ℕ → ℕ → Effect
 storing_there f ix reads count value =
-    record { number = 0; more = 0; reads = reads; tp = f.tp; ix = ix; psw = f.psw; halts = false; armed = false; write = no_write; count = count; space = f.space; address = f.at; value = value }
+    record { more = 0; reads = reads; tp = f.tp; ix = ix; psw = f.psw; halts = false; armed = false; write = None; count = count; space = f.space; address = f.at; value = value }
 
 -- what the work of a memory operand and another value stores back
 abbrev pub work_stored : Finding → Work → Memory → ℕ → Effect
@@ -74,17 +75,31 @@ pub record Carries (c : Channel) (d : Deed) (e : Effect) : Type 0 where
   pub change : change_in e ≡ d.change
 
 -- an effect of what was found is a deed, but that the bytes which it reads of its operand are still to be tested
-pub record IsDeed (m : Buffers) (c : Channel) (f : Finding) (d : Deed) (e : Effect) : Type 0 where
-  pub told : first e.number (unless (all_touchable m (span f.space f.at e.reads)) 2) ≡ deed_number m d
+pub record Performs (m : Buffers) (c : Channel) (f : Finding) (d : Deed) (e : Effect) : Type 0 where
+  pub told : unless (all_touchable m (span f.space f.at e.reads)) 2 ≡ deed_number m d
   pub reads : deed_number m d ≡ 0 → e.more + e.reads ≡ length d.reads
   pub carries : deed_number m d ≡ 0 → Carries c d e
 
+-- the same of what may be refused before that, by the deed's number
+abbrev pub DoesOr : Buffers → Channel → Finding → Deed → Result Effect Refusal → Type 0
+DoesOr m c f d (Ok e) = Performs m c f d e
+DoesOr m c f d (Err refusal) = number_of refusal ≡ deed_number m d
+
 -- an effect is the deed of a shape, where what was found is what an instruction of that shape finds in memories of bytes
 abbrev pub Works : Shape → ℕ → Finding → Buffers → Channel → Effect → Type 0
-Works s busy f m c e = AllBytes m → f ≡ finding_of m c s (length_of s) → IsDeed m c f (deed_of s m c busy) e
+Works s busy f m c e = AllBytes m → f ≡ finding_of m c s (length_of s) → Performs m c f (deed_of s m c busy) e
 
--- an effect that has a number and, where that is 0, is a deed, its own bytes being read too
-pub record Planned (c : Channel) (number own : ℕ) (d : Deed) (e : Effect) : Type 0 where
-  pub told : e.number ≡ number
-  pub reads : number ≡ 0 → e.reads ≡ own + length d.reads
-  pub carries : number ≡ 0 → Carries c d e
+-- the same of what may be refused
+abbrev pub WorksOr : Shape → ℕ → Finding → Buffers → Channel → Result Effect Refusal → Type 0
+WorksOr s busy f m c r = AllBytes m → f ≡ finding_of m c s (length_of s) → DoesOr m c f (deed_of s m c busy) r
+
+-- an effect is a deed that is not refused, its own bytes being read too
+pub record Prepared (c : Channel) (number own : ℕ) (d : Deed) (e : Effect) : Type 0 where
+  pub told : number ≡ 0
+  pub reads : e.reads ≡ own + length d.reads
+  pub carries : Carries c d e
+
+-- a plan is refused by a number or, where that is 0, is such an effect
+abbrev pub Planned : Channel → ℕ → ℕ → Deed → Result Effect Refusal → Type 0
+Planned c number own d (Ok e) = Prepared c number own d e
+Planned c number own d (Err refusal) = number_of refusal ≡ number

@@ -3,3 +3,4 @@ pub mod Bytes
 pub mod Findings
 pub mod Effects
 pub mod Plan
+pub mod Answers

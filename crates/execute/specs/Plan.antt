@@ -4,8 +4,8 @@ use Rattle.ground_rules.specs.Buffers.{Buffers}
 use Rattle.ground_rules.specs.Places.{all_touchable}
 use Rattle.ground_rules.specs.Outcomes.{first, unless}
 use Rattle.ground_rules.specs.declared.Channel.{Channel}
-use Rattle.instruction_rules.specs.declared.Decoded.{Decoded}
-use Rattle.instruction_rules.specs.Reading.{number_of}
+use Rattle.instruction_rules.specs.Decoded.{Decoded}
+use Rattle.instruction_rules.specs.Reading.{decoded_number}
 use Rattle.instruction_rules.specs.Operands.{bytes_at}
 use Rattle.execute.specs.Effects.{deed_number}
 use Rattle.instruction_rules.specs.Execute.{decoded_at, deed_from, later_from}
@@ -16,7 +16,7 @@ later_number d m c busy = first (unless (all_touchable m (later_from d c)) 2) (d
 
 -- the number of an instruction, but for the stores, d being what its first two bytes are
 unfoldable pub plan_from : Decoded → Buffers → Channel → ℕ → ℕ
-plan_from d m c busy = first (unless (all_touchable m (bytes_at c.tp 2)) 2) (first (number_of d) (later_number d m c busy))
+plan_from d m c busy = first (unless (all_touchable m (bytes_at c.tp 2)) 2) (first (decoded_number d) (later_number d m c busy))
 
 unfoldable pub plan_number : Buffers → Channel → ℕ → ℕ
 plan_number m c busy = plan_from (decoded_at m c.tp) m c busy

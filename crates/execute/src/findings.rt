@@ -99,25 +99,15 @@ fn value(c: Channel, tp: u32, rrr: u32) -> u32
     }
 }
 
-// What AA adds to the base, the offset byte being the third of eight.
-fn index(ix: u16, aa: u32, bytes: u64) -> u32
-    ensures { result ≡ pick (aa == 0) 0 (pick (aa == 1) (bytes / 65536 % 256) ix) }
-{
-    if aa == 0 {
-        return 0;
-    }
-    if aa == 1 {
-        return (bytes / 65536 % 256) as u32;
-    }
-    ix as u32
-}
-
 // Where the operand lies that a shape names; where it names none, at 0 of system memory.
 fn place(c: Channel, n: Naming, bytes: u64) -> Pointer
     ensures { (m : Buffers) → AllBytes m → bytes ≡ eight_at m c.tp.tag c.tp.address → result ≡ place_named m c n }
 {
     if n.memory {
-        memory::onward(machine::registers::base(c, n.mm), index(c.ix, n.aa, bytes))
+        memory::onward(
+            machine::registers::base(c, n.mm),
+            operands::added(n.aa, c.ix, (bytes / 65536 % 256) as u32),
+        )
     } else {
         Pointer {
             address: 0,

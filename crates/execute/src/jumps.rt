@@ -6,14 +6,14 @@ ghost use Rattle.instruction_rules.specs.JumpForms as Jumps;
 ghost use Rattle.instruction_rules.specs.declared.Shape.TheVariants.{JumpRegister, JumpMemory, JumpMasked, JumpBit, Tsl, Call};
 ghost use Rattle.execute.specs.Effects.{leaving, jumping, Works};
 
-use crate::{Effect, Finding, NO_WRITE, changes, control, memories, operands};
+use crate::{Effect, Finding, changes, memories, operands};
 use instruction_rules::Memory;
 
 // A test, or its opposite.
 fn agrees(wanted: bool, found: bool) -> bool
     ensures { result ≡ Jumps.agrees wanted found }
 {
-    if wanted { found } else { !found }
+    wanted == found
 }
 
 // JZ and JNZ on a register.
@@ -21,13 +21,10 @@ pub fn jump_register(f: Finding, zero: bool, rrr: u32, two: bool) -> Effect
     ensures { (busy : ℕ) (m : Buffers) (c : Channel) → Works (JumpRegister zero rrr two) busy f m c result }
 {
     let taken = agrees(zero, f.value % 65536 == 0);
-    control::leaves(
-        operands::led_by(taken, f.tp, f.behind, two),
-        f.ix,
-        f.psw,
-        false,
-        0,
-    )
+    Effect {
+        tp: operands::led_by(taken, f.tp, f.behind, two),
+        ..Effect::past(f)
+    }
 }
 
 // JZ and JNZ on a memory operand.
@@ -35,26 +32,24 @@ pub fn jump_memory(f: Finding, zero: bool, o: Memory, two: bool) -> Effect
     ensures { (busy : ℕ) (m : Buffers) (c : Channel) → Works (JumpMemory zero o two) busy f m c result }
 {
     let taken = agrees(zero, operands::operand_in(f.operand, o.wide) == 0);
-    control::leaves(
-        operands::led_by(taken, f.tp, f.behind, two),
-        operands::grown_by_width(o, f.ix),
-        f.psw,
-        false,
-        operands::size(o.wide),
-    )
+    Effect {
+        reads: operands::size(o.wide),
+        tp: operands::led_by(taken, f.tp, f.behind, two),
+        ix: operands::grown_by_width(o, f.ix),
+        ..Effect::past(f)
+    }
 }
 
 // A jump on a byte that was tested.
 fn jump_byte(f: Finding, taken: bool, o: Memory, two: bool) -> Effect
     ensures { result ≡ jumping f taken o two }
 {
-    control::leaves(
-        operands::led_by(taken, f.tp, f.behind, two),
-        operands::grown_ix(o, f.ix, 1),
-        f.psw,
-        false,
-        1,
-    )
+    Effect {
+        reads: 1,
+        tp: operands::led_by(taken, f.tp, f.behind, two),
+        ix: operands::grown_ix(o, f.ix, 1),
+        ..Effect::past(f)
+    }
 }
 
 // JMCE and JMCNE.
@@ -81,13 +76,12 @@ pub fn tsl(f: Finding, o: Memory) -> Effect
     if f.operand % 256 == 0 {
         return memories::stores(f, ix, 1, 1, f.behind % 256);
     }
-    control::leaves(
-        operands::landing_by(f.tp, f.behind / 256, false),
+    Effect {
+        reads: 1,
+        tp: operands::landing_by(f.tp, f.behind / 256, false),
         ix,
-        f.psw,
-        false,
-        1,
-    )
+        ..Effect::past(f)
+    }
 }
 
 // CALL.
@@ -95,18 +89,12 @@ pub fn call(f: Finding, o: Memory, two: bool) -> Effect
     ensures { (busy : ℕ) (m : Buffers) (c : Channel) → Works (Call o two) busy f m c result }
 {
     Effect {
-        number: 0,
-        more: 0,
-        reads: 0,
         tp: operands::landing_by(f.tp, f.behind, two),
         ix: operands::grown_ix(o, f.ix, 3),
-        psw: f.psw,
-        halts: false,
-        armed: false,
-        write: NO_WRITE,
         count: 3,
         space: f.space,
         address: f.at,
         value: changes::stored_value(f.tp, f.code),
+        ..Effect::past(f)
     }
 }

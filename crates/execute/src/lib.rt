@@ -9,17 +9,18 @@ ghost use Rattle.ground_rules.specs.Outcomes.{first, unless};
 ghost use Rattle.ground_rules.specs.Places.{span, all_touchable};
 ghost use Rattle.ground_rules.specs.declared.Mode.TheVariants.{Idle};
 ghost use Rattle.execute.specs.Bytes.{eight_at};
-ghost use Rattle.execute.specs.Effects.{refusal, channel_worked, Works, Planned};
-ghost use Rattle.instruction_rules.specs.declared.Decoded.TheVariants.{Instruction};
+ghost use Rattle.execute.specs.Answers.{executed_by};
+ghost use Rattle.execute.specs.Effects.{going_past, channel_worked, WorksOr, Planned};
+ghost use Rattle.ground_rules.specs.Refusals.{number_of, done_count};
 ghost use Rattle.instruction_rules.specs.Lengths.{length_of};
 ghost use Rattle.instruction_rules.specs.Operands.{bytes_at};
-ghost use Rattle.instruction_rules.specs.Reading.{number_of};
-ghost use Rattle.instruction_rules.specs.Execute.{decoded_at, deed_of, length_from, executed, execute_of, execute_count};
+ghost use Rattle.instruction_rules.specs.Reading.{decoded_number};
+ghost use Rattle.instruction_rules.specs.Execute.{decoded_at, deed_of, length_from, execute_of, execute_count};
 ghost use Rattle.execute.specs.Plan.{later_number, plan_number};
 ghost use Rattle.instruction_rules.specs.Kept.{deed_at};
 
-use ground_rules::{Channel, Done, Held, Mode, Pointer};
-use instruction_rules::{Decoded, Shape};
+use ground_rules::{Channel, Done, Mode, Pointer, Refusal};
+use instruction_rules::{Shape, Unread};
 
 // Places, the operands that lie there, and what the instructions work out of them.
 pub mod operands;
@@ -38,31 +39,24 @@ mod memories;
 // Instructions that jump.
 mod jumps;
 
-// The register that an instruction writes by RRR: whether there is one, which, its value, and the tag where it is a pointer.
+// The register that an instruction writes: which by RRR, its value, and the tag where it is a pointer.
 #[derive(Clone, Copy)]
 pub struct Write {
-    pub any: bool,
     pub rrr: u32,
     pub value: u32,
     pub tag: bool,
 }
 
-// No register.
-pub const NO_WRITE: Write = Write {
-    any: false,
-    rrr: 0,
-    value: 0,
-    tag: false,
-};
-
-// Eight bytes as one number, the lowest first, and whether all of them are lent.
+// Eight bytes as one number, the lowest first, and whether all of them are lent; they are read where they are not, too, so
+// that this is no Option.
 #[derive(Clone, Copy)]
 pub struct Window {
     pub bytes: u64,
     pub near: bool,
 }
 
-// What a shape names: whether it has a memory operand, MM and AA of that, and the register that it reads.
+// What a shape names: whether it has a memory operand, MM and AA of that, and the register that it reads. An Option of the
+// operand in the place of the flag takes 176.0 instructions a step of two in turn, in the place of 170.5.
 #[derive(Clone, Copy)]
 pub struct Naming {
     pub memory: bool,
@@ -89,12 +83,11 @@ pub struct Finding {
     pub tag: bool,
 }
 
-// What an instruction would do, in numbers: a number other than 0 where it is refused; how many bytes it reads of its
-// operand, and how many besides; TP, IX, PSW, whether it halts and the mark after it; the register that it writes; and
-// how many bytes it stores, where, and of which value.
+// What an instruction does, in numbers: how many bytes it reads of its operand, and how many besides; TP, IX, PSW, whether
+// it halts and the mark after it; the register that it writes, if any; and how many bytes it stores, where, and of which
+// value.
 #[derive(Clone, Copy)]
 pub struct Effect {
-    pub number: u32,
     pub more: u32,
     pub reads: u32,
     pub tp: u32,
@@ -102,18 +95,47 @@ pub struct Effect {
     pub psw: u8,
     pub halts: bool,
     pub armed: bool,
-    pub write: Write,
+    pub write: Option<Write>,
     pub count: u32,
     pub space: bool,
     pub address: u32,
     pub value: u32,
 }
 
-// What an instruction of some shape does with what it finds.
-fn perform(shape: Shape, f: Finding, c: Channel, busy: u32, sys: &[u8], io: &[u8]) -> Effect
-    ensures { Works shape busy f (lent sys.now io.now) c result }
+impl Effect {
+    // What goes past the instruction and does nothing else.
+    pub fn past(f: Finding) -> Effect
+        ensures { result ≡ going_past f }
+    {
+        Effect {
+            more: 0,
+            reads: 0,
+            tp: f.tp,
+            ix: f.ix,
+            psw: f.psw,
+            halts: false,
+            armed: false,
+            write: None,
+            count: 0,
+            space: false,
+            address: 0,
+            value: 0,
+        }
+    }
+}
+
+// What an instruction of some shape does with what it finds; only MOV M,M, with a pair of its own, can be refused here.
+fn perform(
+    shape: Shape,
+    f: Finding,
+    c: Channel,
+    busy: u32,
+    sys: &[u8],
+    io: &[u8],
+) -> Result<Effect, Refusal>
+    ensures { WorksOr shape busy f (lent sys.now io.now) c result }
 {
-    match shape {
+    let effect = match shape {
         Shape::Nop => control::nop(f),
         Shape::Sintr => control::sintr(f),
         Shape::Xfer => control::xfer(f),
@@ -136,34 +158,14 @@ fn perform(shape: Shape, f: Finding, c: Channel, busy: u32, sys: &[u8], io: &[u8
         Shape::Lpd { ppp, m } => registers::lpd(f, ppp, m),
         Shape::MovpLoad { ppp, m } => registers::movp_load(f, ppp, m),
         Shape::MovpStore { ppp, m } => memories::movp_store(f, ppp, m),
-        Shape::MovMemory { m } => memories::mov_memory(f, c, m, sys, io),
+        Shape::MovMemory { m } => memories::mov_memory(f, c, m, sys, io)?,
         Shape::Tsl { m } => jumps::tsl(f, m),
         Shape::Call { m, two } => jumps::call(f, m, two),
         Shape::JumpMasked { equal, m, two } => jumps::jump_masked(f, equal, m, two),
         Shape::JumpBit { set, bit, m, two } => jumps::jump_bit(f, set, bit, m, two),
         Shape::Bit { on, bit, m } => memories::bit(f, on, bit, m),
-    }
-}
-
-// A refusal: nothing stored or written.
-fn refused(number: u32) -> Effect
-    ensures { result ≡ refusal number }
-{
-    Effect {
-        number,
-        more: 0,
-        reads: 0,
-        tp: 0,
-        ix: 0,
-        psw: 0,
-        halts: false,
-        armed: false,
-        write: NO_WRITE,
-        count: 0,
-        space: false,
-        address: 0,
-        value: 0,
-    }
+    };
+    Ok(effect)
 }
 
 // Whether `count` bytes at a place may be touched, of which eight are known to be lent where they are near.
@@ -177,16 +179,6 @@ fn own_touchable(near: bool, tag: bool, address: u32, count: u32, sys: &[u8], io
     memory::span_touchable(sys, io, tag, address, count)
 }
 
-// The number of what was worked out, then 2 where the operand's bytes that it reads may not be touched.
-fn read_number(number: u32, f: Finding, reads: u32, sys: &[u8], io: &[u8]) -> u32
-    ensures { result ≡ first number (unless (all_touchable (lent sys.now io.now) (span f.space f.at reads)) 2) }
-{
-    if number != 0 {
-        return number;
-    }
-    operands::two_unless(memory::span_touchable(sys, io, f.space, f.at, reads))
-}
-
 // An instruction of a channel that was decoded and has `count` bytes, worked out and neither stored nor written; its own
 // bytes, which begin the window, are among those that are read.
 fn shaped(
@@ -197,46 +189,49 @@ fn shaped(
     busy: u32,
     sys: &[u8],
     io: &[u8],
-) -> Effect
+) -> Result<Effect, Refusal>
     requires count_value { count ≡ length_of shape }
     requires all_bytes { AllBytes (lent sys.now io.now) }
     requires bytes_value { w.bytes ≡ eight_at (lent sys.now io.now) c.tp.tag c.tp.address }
     requires count_value_2 { w.near ≡ true → all_touchable (lent sys.now io.now) (span c.tp.tag c.tp.address count) ≡ true }
-    ensures { Planned c (first (unless (all_touchable (lent sys.now io.now) (bytes_at c.tp 2)) 2) (later_number (Instruction shape) (lent sys.now io.now) c busy)) (length_of shape) (deed_of shape (lent sys.now io.now) c busy) result }
+    ensures { Planned c (first (unless (all_touchable (lent sys.now io.now) (bytes_at c.tp 2)) 2) (later_number (Ok shape) (lent sys.now io.now) c busy)) (length_of shape) (deed_of shape (lent sys.now io.now) c busy) result }
 {
     if !own_touchable(w.near, c.tp.tag, c.tp.address, count, sys, io) {
-        return refused(2);
+        return Err(Refusal::BeyondMemory);
     }
     let f = findings::found(shape, count, c, w.bytes, sys, io);
-    let mut e = perform(shape, f, c, busy, sys, io);
-    e.number = read_number(e.number, f, e.reads, sys, io);
-    // Without a test for overflow: a refusal may have any number of bytes, and what is done reads at most five.
-    e.reads = std::num::wrapping_add_u32(count, std::num::wrapping_add_u32(e.more, e.reads));
-    e
+    let e = perform(shape, f, c, busy, sys, io)?;
+    if !memory::span_touchable(sys, io, f.space, f.at, e.reads) {
+        return Err(Refusal::BeyondMemory);
+    }
+    Ok(Effect {
+        // What is done reads at most five bytes.
+        reads: std::num::wrapping_add_u32(count, std::num::wrapping_add_u32(e.more, e.reads)),
+        ..e
+    })
 }
 
-// The number of what is no instruction: 2 where its two bytes may not be touched, else 3 or 4.
-fn unshaped(d: Decoded, tp: Pointer, sys: &[u8], io: &[u8]) -> u32
-    ensures { result ≡ first (unless (all_touchable (lent sys.now io.now) (bytes_at tp 2)) 2) (number_of d) }
+// Why what is no instruction is refused: its two bytes may not be touched, or they are none.
+fn unshaped(unread: Unread, tp: Pointer, sys: &[u8], io: &[u8]) -> Refusal
+    ensures { number_of result ≡ first (unless (all_touchable (lent sys.now io.now) (bytes_at tp 2)) 2) (decoded_number (Err unread)) }
 {
     if operands::touchable(tp, 2, sys, io) {
-        decode::number(d)
+        unread.into()
     } else {
-        2
+        Refusal::BeyondMemory
     }
 }
 
 // The next instruction of a channel, worked out and neither stored nor written; BUSY is at `busy` of system memory.
-fn plan(c: Channel, busy: u32, sys: &[u8], io: &[u8]) -> Effect
+fn plan(c: Channel, busy: u32, sys: &[u8], io: &[u8]) -> Result<Effect, Refusal>
     ensures { Planned c (plan_number (lent sys.now io.now) c busy) (length_from (decoded_at (lent sys.now io.now) c.tp)) (deed_at (lent sys.now io.now) c busy) result }
 {
     let w = windows::eight(c.tp.tag, c.tp.address, sys, io);
     let looked = decode::look_up((w.bytes % 256) as u8, (w.bytes / 256 % 256) as u8);
-    let decoded = looked.decoded;
-    let Decoded::Instruction(shape) = decoded else {
-        return refused(unshaped(decoded, c.tp, sys, io));
-    };
-    shaped(shape, looked.length, c, w, busy, sys, io)
+    match looked.decoded {
+        Ok(shape) => shaped(shape, looked.length, c, w, busy, sys, io),
+        Err(unread) => Err(unshaped(unread, c.tp, sys, io)),
+    }
 }
 
 // The mode after an instruction.
@@ -279,49 +274,29 @@ fn after(c: Channel, e: Effect, mode: Mode) -> Channel
         mode,
         armed: e.armed,
         fields,
-        held: Held::NoByte,
-    }
-}
-
-// A refused instruction: the channel as it was, by its parts too. Copied whole here and by parts elsewhere, the compiler
-// would keep both in memory.
-fn unmade(c: Channel, number: u32) -> Done
-    ensures { result ≡ record { number = number; count = 0; channel = c } }
-{
-    let held = c.held;
-    Done {
-        number,
-        count: 0,
-        channel: machine::updates::holds(c, held),
+        held: None,
     }
 }
 
 // One instruction of a channel, done or refused; BUSY is at `busy` of system memory.
-pub fn execute(c: Channel, busy: u32, sys: &mut [u8], io: &mut [u8]) -> Done
-    ensures left { executed result.number result.channel (lent sys.new io.new) ≡ execute_of c busy (lent sys.old io.old) }
-    ensures count { result.count ≡ execute_count c busy (lent sys.old io.old) }
+pub fn execute(c: Channel, busy: u32, sys: &mut [u8], io: &mut [u8]) -> Result<Done, Refusal>
+    ensures left { executed_by c result (lent sys.new io.new) ≡ execute_of c busy (lent sys.old io.old) }
+    ensures count { done_count result ≡ execute_count c busy (lent sys.old io.old) }
 {
-    let e = plan(c, busy, sys, io);
-    if e.number != 0 {
-        return unmade(c, e.number);
-    }
+    let e = plan(c, busy, sys, io)?;
     if !changes::made(e.count, e.space, e.address, e.value, sys, io) {
-        return unmade(c, 2);
+        return Err(Refusal::BeyondMemory);
     }
     let count = e.reads + e.count;
-    let write = e.write;
-    let before = c.mode;
-    let next = after(c, e, mode_after(e.halts, before));
-    if !write.any {
-        return Done {
-            number: 0,
+    let next = after(c, e, mode_after(e.halts, c.mode));
+    let Some(write) = e.write else {
+        return Ok(Done {
             count,
             channel: next,
-        };
-    }
-    Done {
-        number: 0,
+        });
+    };
+    Ok(Done {
         count,
         channel: machine::registers::with(next, write.rrr, write.value, write.tag),
-    }
+    })
 }

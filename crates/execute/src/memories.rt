@@ -10,11 +10,11 @@ ghost use Rattle.instruction_rules.specs.Marks.{past_instruction};
 ghost use Rattle.instruction_rules.specs.declared.Shape.TheVariants.{MemoryRegister, MemoryImmediate, MemoryAlone, MovpStore, MovMemory, Bit};
 ghost use Rattle.execute.specs.Bytes.{operand_of_four, grown_ix};
 ghost use Rattle.execute.specs.Findings.{finding_of};
-ghost use Rattle.execute.specs.Effects.{storing_there, work_stored, IsDeed, Works};
+ghost use Rattle.execute.specs.Effects.{storing_there, work_stored, DoesOr, Works, WorksOr};
 
-use crate::{Effect, Finding, NO_WRITE, changes, operands};
-use ground_rules::Channel;
-use instruction_rules::{Memory, Second, Single, Work};
+use crate::{Effect, Finding, changes, operands};
+use ground_rules::{Channel, Refusal};
+use instruction_rules::{Memory, Single, Work};
 
 // The bytes that work reads of a memory operand.
 fn read_first(work: Work, wide: bool) -> u32
@@ -32,19 +32,13 @@ pub fn stores(f: Finding, ix: u16, reads: u32, count: u32, value: u32) -> Effect
     ensures { result ≡ storing_there f ix reads count value }
 {
     Effect {
-        number: 0,
-        more: 0,
         reads,
-        tp: f.tp,
         ix,
-        psw: f.psw,
-        halts: false,
-        armed: false,
-        write: NO_WRITE,
         count,
         space: f.space,
         address: f.at,
         value,
+        ..Effect::past(f)
     }
 }
 
@@ -106,54 +100,57 @@ pub fn bit(f: Finding, on: bool, bit: u32, o: Memory) -> Effect
     stores(f, operands::grown_ix(o, f.ix, 1), 1, 1, v)
 }
 
-// What AA adds to the base of a second operand.
-fn second_index(q: Memory, ix: u16, offset: u32) -> u32
-    ensures { result ≡ pick (q.aa == 0) 0 (pick (q.aa == 1) offset ix) }
-{
-    if q.aa == 0 {
-        return 0;
-    }
-    if q.aa == 1 {
-        return offset;
-    }
-    ix as u32
-}
-
 // MOV M,M, its second operand read; the offset byte of that stands where TP is past the instruction.
-fn mov_operand(f: Finding, c: Channel, o: Memory, q: Memory, sys: &[u8], io: &[u8]) -> Effect
-    ensures { AllBytes (lent sys.now io.now) → f ≡ finding_of (lent sys.now io.now) c (MovMemory o) (length_of (MovMemory o)) → IsDeed (lent sys.now io.now) c f (mov_operand_deed (lent sys.now io.now) (past_instruction c (length_of (MovMemory o))) c.tp o q) result }
+fn mov_operand(
+    f: Finding,
+    c: Channel,
+    o: Memory,
+    q: Memory,
+    sys: &[u8],
+    io: &[u8],
+) -> Result<Effect, Refusal>
+    ensures { AllBytes (lent sys.now io.now) → f ≡ finding_of (lent sys.now io.now) c (MovMemory o) (length_of (MovMemory o)) → DoesOr (lent sys.now io.now) c f (mov_operand_deed (lent sys.now io.now) (past_instruction c (length_of (MovMemory o))) c.tp o q) result }
 {
     let ix = operands::grown_by_width(o, f.ix);
     let base = machine::registers::base(c, q.mm);
     let n = decode::offset_length(q);
-    Effect {
-        number: operands::two_unless(memory::span_touchable(sys, io, f.code, f.tp, n)),
+    if !memory::span_touchable(sys, io, f.code, f.tp, n) {
+        return Err(Refusal::BeyondMemory);
+    }
+    let size = operands::size(o.wide);
+    Ok(Effect {
         more: n,
-        reads: operands::size(o.wide),
+        reads: size,
         tp: words::sum20(f.tp, n),
         ix: operands::grown_by_width(q, ix),
-        psw: f.psw,
-        halts: false,
-        armed: false,
-        write: NO_WRITE,
-        count: operands::size(o.wide),
+        count: size,
         space: base.tag,
-        address: words::sum20(base.address, second_index(q, ix, f.behind / 65536 % 256)),
+        address: words::sum20(
+            base.address,
+            operands::added(q.aa, ix, f.behind / 65536 % 256),
+        ),
         value: operands::operand_in(f.operand, o.wide),
-    }
+        ..Effect::past(f)
+    })
 }
 
 // MOV M,M.
-pub fn mov_memory(f: Finding, c: Channel, o: Memory, sys: &[u8], io: &[u8]) -> Effect
-    ensures { (busy : ℕ) → Works (MovMemory o) busy f (lent sys.now io.now) c result }
+pub fn mov_memory(
+    f: Finding,
+    c: Channel,
+    o: Memory,
+    sys: &[u8],
+    io: &[u8],
+) -> Result<Effect, Refusal>
+    ensures { (busy : ℕ) → WorksOr (MovMemory o) busy f (lent sys.now io.now) c result }
 {
     let second = decode::decode_second(
         (f.behind % 256) as u8,
         (f.behind / 256 % 256) as u8,
         o.wide,
     );
-    let Second::Operand(q) = second else {
-        return crate::refused(decode::second_number(second));
+    let Some(q) = second else {
+        return Err(Refusal::NotAnInstruction);
     };
     mov_operand(f, c, o, q, sys, io)
 }

@@ -1,9 +1,8 @@
 // Places, the operands that lie there, what the instructions work out of them, and what they store.
-ghost use Rattle.std.specs.Prelude.{◌≡◌};
+ghost use Rattle.std.specs.Prelude.{◌≡◌, ◌==◌};
 ghost use Rattle.ground_rules.specs.Buffers.{lent};
 ghost use Rattle.ground_rules.specs.Places.{all_touchable};
 ghost use Rattle.ground_rules.specs.Choice.{pick};
-ghost use Rattle.ground_rules.specs.Outcomes.{unless};
 ghost use Rattle.instruction_rules.specs.Marks.{used_up};
 ghost use Rattle.instruction_rules.specs.Operands as Operands;
 ghost use Rattle.instruction_rules.specs.Operands.{byte_here, bytes_at, size_of, work_of, single_of, is_move};
@@ -44,27 +43,25 @@ pub fn size(wide: bool) -> u32
     if wide { 2 } else { 1 }
 }
 
-// What AA adds to the base.
-fn index(c: Channel, m: Memory, pair: Pointer, sys: &[u8], io: &[u8]) -> u32
-    ensures { result ≡ Operands.indexed (lent sys.now io.now) c m pair }
+// What AA adds to the base: nothing, the offset byte, or IX.
+pub fn added(aa: u32, ix: u16, offset: u32) -> u32
+    ensures { result ≡ pick (aa == 0) 0 (pick (aa == 1) offset ix) }
 {
-    let aa = m.aa;
-    if aa == 0 {
-        return 0;
+    match aa {
+        0 => 0,
+        1 => offset,
+        _ => ix as u32,
     }
-    if aa == 1 {
-        return byte(memory::onward(pair, 2), sys, io) as u32;
-    }
-    c.ix as u32
 }
 
 // The place of a memory operand whose pair is at `pair`.
 pub fn effective(c: Channel, m: Memory, pair: Pointer, sys: &[u8], io: &[u8]) -> Pointer
     ensures { result ≡ Operands.effective (lent sys.now io.now) c m pair }
 {
+    let offset = byte(memory::onward(pair, 2), sys, io);
     memory::onward(
         machine::registers::base(c, m.mm),
-        index(c, m, pair, sys, io),
+        added(m.aa, c.ix, offset as u32),
     )
 }
 
@@ -72,11 +69,10 @@ pub fn effective(c: Channel, m: Memory, pair: Pointer, sys: &[u8], io: &[u8]) ->
 pub fn grown(c: Channel, m: Memory, by: u16) -> Channel
     ensures { result ≡ Operands.grown c m by }
 {
-    let mut next = c;
-    if m.aa == 3 {
-        next.ix = std::num::wrapping_add_u16(c.ix, by);
+    Channel {
+        ix: grown_ix(m, c.ix, by),
+        ..c
     }
-    next
 }
 
 // What two operands give.
@@ -107,31 +103,14 @@ pub fn single(single: Single, a: u32) -> u32
 pub fn is_move(work: Work) -> bool
     ensures { result ≡ is_move work }
 {
-    match work {
-        Work::Mov => true,
-        Work::Add => false,
-        Work::Or => false,
-        Work::And => false,
-        Work::Not => false,
-    }
+    matches!(work, Work::Mov)
 }
 
 // The channel with IX grown by the operand's size where AA is 11.
 pub fn grown_by_size(c: Channel, m: Memory) -> Channel
     ensures { result ≡ Operands.grown c m (size_of m.wide) }
 {
-    if m.wide {
-        grown(c, m, 2)
-    } else {
-        grown(c, m, 1)
-    }
-}
-
-// 2 where a test fails, else 0.
-pub fn two_unless(ok: bool) -> u32
-    ensures { result ≡ unless ok 2 }
-{
-    if ok { 0 } else { 2 }
+    grown(c, m, size(m.wide) as u16)
 }
 
 // Where data or displacement stands: after the pair and its offset byte.
@@ -189,9 +168,5 @@ pub fn grown_ix(m: Memory, ix: u16, by: u16) -> u16
 pub fn grown_by_width(m: Memory, ix: u16) -> u16
     ensures { result ≡ grown_ix m ix (size_of m.wide) }
 {
-    if m.wide {
-        grown_ix(m, ix, 2)
-    } else {
-        grown_ix(m, ix, 1)
-    }
+    grown_ix(m, ix, size(m.wide) as u16)
 }

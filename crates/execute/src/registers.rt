@@ -14,24 +14,10 @@ fn writes(f: Finding, ix: u16, reads: u32, rrr: u32, value: u32, tag: bool) -> E
     ensures { result ≡ writing f ix reads (write_to rrr value tag) }
 {
     Effect {
-        number: 0,
-        more: 0,
         reads,
-        tp: f.tp,
         ix,
-        psw: f.psw,
-        halts: false,
-        armed: false,
-        write: Write {
-            any: true,
-            rrr,
-            value,
-            tag,
-        },
-        count: 0,
-        space: false,
-        address: 0,
-        value: 0,
+        write: Some(Write { rrr, value, tag }),
+        ..Effect::past(f)
     }
 }
 

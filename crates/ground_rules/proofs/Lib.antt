@@ -14,3 +14,4 @@ pub mod PswLaws
 pub mod HoldingLaws
 pub mod GivenLaws
 pub mod StageLaws
+pub mod RefusalLaws

@@ -17,3 +17,4 @@ pub mod States
 pub mod Outcomes
 pub mod Conditions
 pub mod Stages
+pub mod Refusals

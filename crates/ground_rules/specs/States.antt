@@ -1,5 +1,5 @@
 -- The whole state (§2.7): a fresh one, one after reset, a sound one, and its channels, channel 1 named by false and channel 2 by true.
-use Rattle.std.specs.Prelude.{Bool, true, false, ◌&&◌, ◌||◌, ℕ, ltb, eqb}
+use Rattle.std.specs.Prelude.{Bool, true, false, ◌&&◌, ◌||◌, ℕ, ltb, eqb, None}
 use Rattle.ground_rules.specs.Choice.{pick}
 use Rattle.ground_rules.specs.Sums.{sum20}
 use Rattle.ground_rules.specs.Values.{pointer}
@@ -7,7 +7,6 @@ use Rattle.ground_rules.specs.Cc.{split, same_fields}
 use Rattle.ground_rules.specs.declared.Mode.{Mode}
 use Rattle.ground_rules.specs.declared.Mode.TheVariants.{Idle, Running, Suspended}
 use Rattle.ground_rules.specs.declared.Channel.{Channel}
-use Rattle.ground_rules.specs.declared.Held.TheVariants.{NoByte}
 use Rattle.ground_rules.specs.declared.State.{State}
 use Rattle.ground_rules.specs.declared.Made.{Made}
 use Rattle.ground_rules.specs.declared.Board.{Board}
@@ -29,7 +28,7 @@ idle_channel =
       mode = Idle;
       armed = false;
       fields = split 0;
-      held = NoByte;
+      held = None;
     }
 
 -- what the board set up: powered up or not, SYSBUS bit 0 and SOC bit 0, the physical widths of the system and of the I/O bus, and SOC bit 1
@@ -97,6 +96,16 @@ unfoldable pub is_suspended : Mode → Bool
 is_suspended Idle = false
 is_suspended Running = false
 is_suspended Suspended = true
+
+-- the number of a mode, where states are stored and written
+abbrev pub mode_code : Mode → ℕ
+mode_code Idle = 0
+mode_code Running = 1
+mode_code Suspended = 2
+
+-- the mode of a number
+abbrev pub mode_coded : ℕ → Mode
+mode_coded n = pick (eqb n 0) Idle (pick (eqb n 1) Running Suspended)
 
 -- where a channel's control block begins: at CP, for channel 2 at CP + 8 (§4.1)
 unfoldable pub block_of : State → Bool → ℕ

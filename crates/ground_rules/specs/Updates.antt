@@ -1,10 +1,8 @@
 -- A channel with some of its registers changed and every other as it was; a new register is carried on here and nowhere else.
-use Rattle.std.specs.Prelude.{Bool, false, ℕ}
+use Rattle.std.specs.Prelude.{Bool, false, ℕ, Option, None}
 use Rattle.ground_rules.specs.declared.Pointer.{Pointer}
 use Rattle.ground_rules.specs.Psw.{with_psw}
 use Rattle.ground_rules.specs.declared.Channel.{Channel}
-use Rattle.ground_rules.specs.declared.Held.{Held}
-use Rattle.ground_rules.specs.declared.Held.TheVariants.{NoByte}
 use Rattle.ground_rules.specs.declared.Mode.{Mode}
 use Rattle.ground_rules.specs.declared.Mode.TheVariants.{Idle}
 
@@ -69,7 +67,7 @@ with_transfer c ga gb tp bc psw =
     }
 
 -- the byte that a channel holds between two halves of a pair of transfer steps (§7.14), or none: all else stays
-abbrev pub holding : Channel → Held → Channel
+abbrev pub holding : Channel → Option ℕ → Channel
 holding c held =
     record {
       ga = c.ga;
@@ -90,7 +88,7 @@ holding c held =
 
 -- a channel that drops the byte that it may hold
 abbrev pub dropped : Channel → Channel
-dropped c = holding c NoByte
+dropped c = holding c None
 
 -- PSW of a channel that stops: TB and XF are 0
 unfoldable pub stopped_psw : ℕ → ℕ

@@ -1,5 +1,6 @@
 -- What an instruction leaves of a channel: that a sound one stays sound, that the fields stay those of CC, PP, the mode, and how the mark of XFER is used up.
 -- Assumes nothing.
+use Rattle.std.proofs.Common.{None, Ok, Option, Some}
 use Prim.Native.Nat.{ℕ, ◌+◌, ◌-◌, ◌%◌}
 use borrow.Author.Tests.{eqb-false, lt-ltb}
 use lib.Dec.{ltb, eqb, lit<}
@@ -8,10 +9,7 @@ use mathlib.Core.Bool.{Bool, true, false, not, ◌&&◌, ◌||◌}
 use mathlib.Core.Path.{◌≡◌, refl, sym, ap, ◌∙◌}
 use native.Mathlib.Nat.{mod-lt}
 use Rattle.instruction_rules.specs.Lengths.{offset_length, length_of}
-use Rattle.instruction_rules.specs.declared.Decoded.TheVariants.{Instruction}
 use Rattle.instruction_rules.specs.declared.Memory.{Memory}
-use Rattle.instruction_rules.specs.declared.Second.{Second}
-use Rattle.instruction_rules.specs.declared.Second.TheVariants.{Operand, NoSecond}
 use Rattle.instruction_rules.specs.declared.Shape.{Shape}
 use Rattle.instruction_rules.specs.declared.Shape.TheVariants.{Nop, Sintr, Xfer, Wid, Hlt, Lpdi, RegisterImmediate, Register, JumpRegister, RegisterMemory, MemoryRegister, MemoryImmediate, MemoryAlone, JumpMemory, Lpd, MovpLoad, MovpStore, MovMemory, Tsl, Call, JumpMasked, JumpBit, Bit}
 use Rattle.instruction_rules.specs.declared.Work.{Work}
@@ -21,7 +19,6 @@ use Rattle.ground_rules.specs.Registers.{tag_of, with_register, moved, worked}
 use Rattle.ground_rules.specs.States.{sound_channel, fields_agree}
 use Rattle.ground_rules.specs.Updates.{with_control, renewed, stopped_psw, halted}
 use Rattle.ground_rules.specs.declared.Channel.{Channel}
-use Rattle.ground_rules.specs.declared.Held.TheVariants.{NoByte}
 use Rattle.ground_rules.specs.declared.Mode.TheVariants.{Idle}
 use Rattle.ground_rules.proofs.StoreLaws.{system-touchable, read_same}
 use Rattle.ground_rules.specs.Buffers.{Buffers, touchable_at, byte_at}
@@ -166,7 +163,7 @@ record After (s : Shape) (armed : Bool) (c d : Channel) : Type 0 where
   mode : d.mode ≡ pick halts Idle c.mode
   mark : d.armed ≡ pick arms (not armed) false
   xf : transferring d.psw ≡ pick halts false (transferring c.psw)
-  held : c.held ≡ NoByte → d.held ≡ NoByte
+  held : c.held ≡ None → d.held ≡ None
   sound : sound_channel c ≡ true → sound_channel d ≡ true
   agree : fields_agree c ≡ true → fields_agree d ≡ true
 
@@ -256,12 +253,12 @@ module _ (m : Buffers) (c : Channel) (tp : Pointer) where
       go true e = rw e (grows c o 1)
       go false e = rw e (then (grows c o 1) (jumps-if true m (grown c o 1) (onward (after_pair tp o) 1) false))
 
-  second-steady : (o : Memory) (q : Second) → Steady c (mov_second_deed m c tp o q).channel
+  second-steady : (o : Memory) (q : Option Memory) → Steady c (mov_second_deed m c tp o q).channel
   unfolding mov_second_deed mov_operand_deed
-  second-steady o (Operand q) =
+  second-steady o (Some q) =
       then (grows c o (size_of o.wide))
       (then (grows (grown c o (size_of o.wide)) q (size_of q.wide)) (goes_on (grown (grown c o (size_of o.wide)) q (size_of q.wide)) (offset_length q)))
-  second-steady o NoSecond = same c
+  second-steady o None = same c
 
 after : (s : Shape) (m : Buffers) (c : Channel) (tp : Pointer) (armed : Bool) (busy : ℕ) → c.armed ≡ false → After s armed c (performed s m c tp armed busy).channel
 unfolding performed nop_deed sintr_deed wid_deed lpdi_deed register_immediate_deed register_deed jump_register_deed register_memory_deed memory_register_deed memory_immediate_deed memory_work_deed memory_alone_deed jump_memory_deed lpd_deed movp_load_deed movp_store_deed mov_memory_deed call_deed jump_masked_deed jump_bit_deed jump_byte_deed bit_deed
@@ -327,10 +324,10 @@ module _ (c : Channel) (busy : ℕ) (m : Buffers) where
       (λ s e z. (after-shape s).agree (advanced-agree c (length_of s) h))
 
   -- a done instruction leaves nothing held
-  pub execute-drops : (execute_of c busy m).number ≡ 0 → (execute_of c busy m).channel.held ≡ NoByte
+  pub execute-drops : (execute_of c busy m).number ≡ 0 → (execute_of c busy m).channel.held ≡ None
   unfolding past_instruction
   execute-drops =
-      by_number c busy m (λ o. o.number ≡ 0 → o.channel.held ≡ NoByte)
+      by_number c busy m (λ o. o.number ≡ 0 → o.channel.held ≡ None)
       (λ n no_zero z. absurd (no_zero z))
       (λ s e z zero_number. (after-shape s).held refl)
 
@@ -339,8 +336,8 @@ module _ (c : Channel) (busy : ℕ) (m : Buffers) where
   unfolding past_instruction renewed
   pp-kept = by_number c busy m (λ o. o.channel.pp ≡ c.pp) (λ n ne. refl) (λ s e z. (after-shape s).pp)
 
-  shape-else : (s t : Shape) → decoded_at m c.tp ≡ Instruction s → (decoded_at m c.tp ≡ Instruction t → ⊥) → (b : Bool) → (b ≡ true → s ≡ t) → b ≡ false
-  shape-else s t e ne true h = absurd (ne (e ∙ ap Instruction (h refl)))
+  shape-else : (s t : Shape) → decoded_at m c.tp ≡ Ok s → (decoded_at m c.tp ≡ Ok t → ⊥) → (b : Bool) → (b ≡ true → s ≡ t) → b ≡ false
+  shape-else s t e ne true h = absurd (ne (e ∙ ap Ok (h refl)))
   shape-else s t e ne false h = refl
 
   -- the mode changes by HLT alone

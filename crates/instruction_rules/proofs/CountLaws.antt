@@ -1,5 +1,6 @@
 -- How long the list of an instruction is: its own bytes, the operand bytes that it reads and those that it stores, at most ten.
 -- Assumes nothing.
+use Rattle.std.proofs.Common.{Ok, Err, Option, Some, None}
 use Prim.Native.Nat.{ℕ, ◌+◌, ◌-◌, ◌≤◌}
 use borrow.Author.Tests.{eqb-false, eq-eqb}
 use lib.Dec.{eqb, lit≤}
@@ -21,12 +22,10 @@ use Rattle.ground_rules.specs.Updates.{renewed}
 use Rattle.ground_rules.specs.declared.Channel.{Channel}
 use Rattle.instruction_rules.proofs.LengthLaws.{more-small, offset-small, bounded}
 use Rattle.instruction_rules.specs.Lengths.{offset_length, data_length, displacement_length, length_of}
-use Rattle.instruction_rules.specs.Reading.{number_of}
-use Rattle.instruction_rules.specs.declared.Decoded.{Decoded}
-use Rattle.instruction_rules.specs.declared.Decoded.TheVariants.{Instruction, NoInstruction, ControlUsed}
+use Rattle.instruction_rules.specs.Reading.{decoded_number}
+use Rattle.instruction_rules.specs.Decoded.{Decoded}
+use Rattle.instruction_rules.specs.declared.Unread.TheVariants.{NoInstruction, ControlUsed}
 use Rattle.instruction_rules.specs.declared.Memory.{Memory}
-use Rattle.instruction_rules.specs.declared.Second.{Second}
-use Rattle.instruction_rules.specs.declared.Second.TheVariants.{Operand, NoSecond}
 use Rattle.instruction_rules.specs.declared.Shape.{Shape}
 use Rattle.instruction_rules.specs.declared.Shape.TheVariants.{Nop, Sintr, Xfer, Wid, Hlt, Lpdi, RegisterImmediate, Register, JumpRegister, RegisterMemory, MemoryRegister, MemoryImmediate, MemoryAlone, JumpMemory, Lpd, MovpLoad, MovpStore, MovMemory, Tsl, Call, JumpMasked, JumpBit, Bit}
 use Rattle.instruction_rules.specs.declared.Work.{Work}
@@ -53,10 +52,10 @@ deed-length d = length d.reads + d.change.count
 row-and : (p : Pointer) (k j : ℕ) → length (bytes_at p k) + j ≡ k + j
 row-and p k j = ap (λ (x : ℕ). x + j) (span-length p.tag p.address k)
 
-mov-length : (m : Buffers) (c : Channel) (tp : Pointer) (o : Memory) (x : Second) → deed-length (mov_second_deed m c tp o x) ≡ second_count x o.wide
+mov-length : (m : Buffers) (c : Channel) (tp : Pointer) (o : Memory) (x : Option Memory) → deed-length (mov_second_deed m c tp o x) ≡ second_count x o.wide
 unfolding deed-length mov_second_deed mov_operand_deed second_count
-mov-length m c tp o NoSecond = refl
-mov-length m c tp o (Operand q) =
+mov-length m c tp o None = refl
+mov-length m c tp o (Some q) =
     ap (λ (x : ℕ). x + size_of o.wide)
     (length-append (bytes_at (onward (after_pair tp o) 2) (offset_length q)) (bytes_at (effective m c o tp) (size_of o.wide))
     ∙ ap₂ ◌+◌ (span-length _ _ (offset_length q)) (span-length _ _ (size_of o.wide)))
@@ -103,7 +102,7 @@ module _ (m : Buffers) (c : Channel) (busy : ℕ) where
 
   -- the pair, the bytes after it, and what the deed reads and stores
   stages-length : (s : Shape) → (deed_of s m c busy).second ≡ 0
-      → length (stages_touched (stages_from (Instruction s) m c busy)) ≡ length_of s + deed-length (deed_of s m c busy)
+      → length (stages_touched (stages_from (Ok s) m c busy)) ≡ length_of s + deed-length (deed_of s m c busy)
   unfolding stages_touched stages_from later_from deed_from later_bytes places_of deed-length
   stages-length s h =
       let d = deed_of s m c busy in
@@ -131,10 +130,10 @@ read_small work wide = go (is_move work)
     go true = lit≤ tt
     go false = size_small wide
 
-second-small : (x : Second) (wide : Bool) → second_count x wide ≤ 5
+second-small : (x : Option Memory) (wide : Bool) → second_count x wide ≤ 5
 unfolding second_count offset_length
-second-small (Operand q) wide = omega (arith, offset-small q.aa, size_small wide)
-second-small NoSecond wide = lit≤ tt
+second-small (Some q) wide = omega (arith, offset-small q.aa, size_small wide)
+second-small None wide = lit≤ tt
 
 shape-most : (s : Shape) (m : Buffers) (c : Channel) → instruction_count s m c ≤ 10
 unfolding instruction_count access_count length_of data_length displacement_length
@@ -166,21 +165,21 @@ module _ (m : Buffers) (c : Channel) (busy : ℕ) where
   -- so the bytes of a deed, with those of its instruction, are at most ten, refused or not
   pub deed-most : (d : Decoded) → length_from d + length (deed_from d m c busy).reads + (deed_from d m c busy).change.count ≤ 10
   unfolding length_from deed_from deed-length instruction_count
-  deed-most (Instruction s) = omega (arith, shape-length m c busy s, shape-most s m c)
-  deed-most NoInstruction = lit≤ tt
-  deed-most ControlUsed = lit≤ tt
+  deed-most (Ok s) = omega (arith, shape-length m c busy s, shape-most s m c)
+  deed-most (Err NoInstruction) = lit≤ tt
+  deed-most (Err ControlUsed) = lit≤ tt
 
   pub reads-most : (s : Shape) → length_of s + length (deed_of s m c busy).reads ≤ 10
   unfolding length_from deed_from
-  reads-most s = omega (arith, deed-most (Instruction s))
+  reads-most s = omega (arith, deed-most (Ok s))
 
   -- the list of what is not refused, by what its first two bytes are
-  touched-from : (d : Decoded) → number_of d ≡ 0 → (deed_from d m c busy).second ≡ 0
+  touched-from : (d : Decoded) → decoded_number d ≡ 0 → (deed_from d m c busy).second ≡ 0
       → length (stages_touched (stages_from d m c busy)) ≡ length_from d + length (deed_from d m c busy).reads + (deed_from d m c busy).change.count
   unfolding length_from deed_from deed-length
-  touched-from (Instruction s) z h = stages-length m c busy s h ∙ omega arith
-  touched-from NoInstruction z h = absurd (eqb-false 3 0 refl z)
-  touched-from ControlUsed z h = absurd (eqb-false 4 0 refl z)
+  touched-from (Ok s) z h = stages-length m c busy s h ∙ omega arith
+  touched-from (Err NoInstruction) z h = absurd (eqb-false 3 0 refl z)
+  touched-from (Err ControlUsed) z h = absurd (eqb-false 4 0 refl z)
 
   pub touched-length : execute_number m c busy ≡ 0
       → length (touched_by_instruction m c busy) ≡ length_from (decoded_at m c.tp) + length (deed_at m c busy).reads + (deed_at m c busy).change.count
@@ -188,7 +187,7 @@ module _ (m : Buffers) (c : Channel) (busy : ℕ) where
   touched-length z = touched-from (decoded_at m c.tp) (pair-passed c busy m z) (second-passed c busy m z)
 
   -- exactly what its shape does, and never more than ten
-  pub touched-exact : (s : Shape) → decoded_at m c.tp ≡ Instruction s → execute_number m c busy ≡ 0 → length (touched_by_instruction m c busy) ≡ instruction_count s m c
+  pub touched-exact : (s : Shape) → decoded_at m c.tp ≡ Ok s → execute_number m c busy ≡ 0 → length (touched_by_instruction m c busy) ≡ instruction_count s m c
   unfolding length_from deed_from deed-length instruction_count
   touched-exact s e z =
       touched-length z
@@ -199,6 +198,6 @@ module _ (m : Buffers) (c : Channel) (busy : ℕ) where
   touched-most z = subst (λ (k : ℕ). k ≤ 10) (sym (touched-length z)) (deed-most (decoded_at m c.tp))
 
 -- an instruction has its pair and the bytes after it, and what is none has no bytes
-pub length-from : (s : Shape) (c : Channel) → (length_from (Instruction s) ≡ 2 + length (later_from (Instruction s) c)) × ((length_from NoInstruction ≡ 0) × (length_from ControlUsed ≡ 0))
+pub length-from : (s : Shape) (c : Channel) → (length_from (Ok s) ≡ 2 + length (later_from (Ok s) c)) × ((length_from (Err NoInstruction) ≡ 0) × (length_from (Err ControlUsed) ≡ 0))
 unfolding length_from later_from later_bytes
 length-from s c = (omega (arith, span-length (onward c.tp 2).tag (onward c.tp 2).address (length_of s - 2), (bounded s).0), (refl, refl))

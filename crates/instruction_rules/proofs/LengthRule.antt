@@ -1,5 +1,6 @@
 -- How many bytes an instruction has, by the table's rows: the rule by the fields of its first pair.
 -- Assumes nothing.
+use Rattle.std.proofs.Common.{Ok, Err}
 use mathlib.Core.Path.{◌≡◌, refl, sym, ap, ◌∙◌}
 use mathlib.Core.Bool.{Bool, true, false, not, ◌&&◌, ◌||◌, false≢true}
 use mathlib.Core.List.{List, [], ◌∷◌}
@@ -17,7 +18,7 @@ use Rattle.instruction_rules.specs.declared.Shape.{Shape}
 use Rattle.instruction_rules.specs.declared.Work.{Work}
 use Rattle.instruction_rules.specs.declared.Single.{Single}
 use Rattle.instruction_rules.specs.declared.Shape.TheVariants.{Nop, Sintr, Xfer, Wid, Hlt, Lpdi, RegisterImmediate, Register, JumpRegister, RegisterMemory, MemoryRegister, MemoryImmediate, MemoryAlone, JumpMemory, Lpd, MovpLoad, MovpStore, MovMemory, Tsl, Call, JumpMasked, JumpBit, Bit}
-use Rattle.instruction_rules.specs.declared.Decoded.TheVariants.{Instruction, NoInstruction, ControlUsed}
+use Rattle.instruction_rules.specs.declared.Unread.TheVariants.{NoInstruction, ControlUsed}
 use Rattle.instruction_rules.specs.Table.{SummaryRow, row, table, accepts}
 use Rattle.instruction_rules.specs.Reading.{fits, lookup, decode_of}
 use Rattle.instruction_rules.specs.Lengths.{offset_by, more_by, two_by, data_length, displacement_length, length_of, long_code, pair_length}
@@ -193,15 +194,15 @@ rights =
     ▸ plain-register _ _ _ _ (λ p. Wid (bit_of p.rrr 1) (bit_of p.rrr 0)) tt (λ p. refl)  -- WID
     ▸ end
 
-found : (rs : List SummaryRow) (p : Pair) (s : Shape) → Rights rs → lookup rs p ≡ Instruction s → length_of s ≡ pair_length p
+found : (rs : List SummaryRow) (p : Pair) (s : Shape) → Rights rs → lookup rs p ≡ Ok s → length_of s ≡ pair_length p
 unfolding lookup Right
 found [] p s end e = absurd (three e)
   where
-    three : NoInstruction ≡ Instruction s → ⊥
+    three : (Err NoInstruction) ≡ Ok s → ⊥
     three h = let z : ◌≡◌ {A = ℕ} 0 1 = cc in omega arith
 found (r ∷ rs) p s (h ▸ hs) e = go (fits r p) refl (r.control && is_control p) (found rs p s hs) e
   where
-    go : (f : Bool) → fits r p ≡ f → (u : Bool) → (lookup rs p ≡ Instruction s → length_of s ≡ pair_length p) → pick f (pick u ControlUsed (Instruction (r.shape p))) (lookup rs p) ≡ Instruction s → length_of s ≡ pair_length p
+    go : (f : Bool) → fits r p ≡ f → (u : Bool) → (lookup rs p ≡ Ok s → length_of s ≡ pair_length p) → pick f (pick u (Err ControlUsed) (Ok (r.shape p))) (lookup rs p) ≡ Ok s → length_of s ≡ pair_length p
     go true g true later t = let z : ◌≡◌ {A = ℕ} 0 1 = cc in absurd (eqb-false 0 1 refl z)
     go true g false later t =
         let same : r.shape p ≡ s = cc in
@@ -209,6 +210,6 @@ found (r ∷ rs) p s (h ▸ hs) e = go (fits r p) refl (r.control && is_control 
     go false g u later t = later t
 
 -- an instruction is as long as its pair says
-pub pair-rule : (first second : ℕ) (s : Shape) → decode_of first second ≡ Instruction s → length_of s ≡ pair_length (pair_of first second)
+pub pair-rule : (first second : ℕ) (s : Shape) → decode_of first second ≡ Ok s → length_of s ≡ pair_length (pair_of first second)
 unfolding decode_of
 pair-rule first second s e = found table (pair_of first second) s rights e

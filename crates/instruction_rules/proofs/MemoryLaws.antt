@@ -1,13 +1,13 @@
 -- What an instruction leaves of memory: every byte that it does not store to, and the lengths.
 -- Assumes nothing.
+use Rattle.std.proofs.Common.{Ok}
 use Prim.Native.Nat.{ℕ}
 use lib.Dec.{ltb, eqb}
 use lib.ListN.{length}
 use mathlib.Core.Bool.{Bool}
 use mathlib.Core.List.{List, [], ◌∷◌, ◌++◌}
 use mathlib.Core.Path.{◌≡◌, refl, sym, ap, subst, ◌∙◌}
-use Rattle.instruction_rules.specs.declared.Decoded.{Decoded}
-use Rattle.instruction_rules.specs.declared.Decoded.TheVariants.{Instruction}
+use Rattle.instruction_rules.specs.Decoded.{Decoded}
 use Rattle.instruction_rules.specs.declared.Shape.{Shape}
 use Rattle.ground_rules.specs.Stages.{stages_touched}
 use Rattle.ground_rules.specs.declared.Channel.{Channel}
@@ -49,11 +49,11 @@ module _ (c : Channel) (busy : ℕ) (m : Buffers) where
       (λ s e z. change-other m (deed_of s m c busy).change u b (subst (λ (d : Decoded). ApartFrom (places_of (deed_from d m c busy).change) u b) e h))
 
   -- a done instruction stores to places that it touches
-  second-zero : (s : Shape) → decoded_at m c.tp ≡ Instruction s → execute_number m c busy ≡ 0 → (deed_of s m c busy).second ≡ 0
+  second-zero : (s : Shape) → decoded_at m c.tp ≡ Ok s → execute_number m c busy ≡ 0 → (deed_of s m c busy).second ≡ 0
   unfolding deed_from
   second-zero s e z = ap (λ (d : Decoded). (deed_from d m c busy).second) (sym e) ∙ second-passed c busy m z
 
-  stores-touched : (u : Bool) (b : ℕ) (s : Shape) → ApartFrom (stages_touched (stages_from (Instruction s) m c busy)) u b → (deed_of s m c busy).second ≡ 0 → ApartFrom (places_of (deed_of s m c busy).change) u b
+  stores-touched : (u : Bool) (b : ℕ) (s : Shape) → ApartFrom (stages_touched (stages_from (Ok s) m c busy)) u b → (deed_of s m c busy).second ≡ 0 → ApartFrom (places_of (deed_of s m c busy).change) u b
   unfolding stages_touched stages_from later_from deed_from
   stores-touched u b s k z =
       let d = deed_of s m c busy in

@@ -1,5 +1,6 @@
 -- The number of an instruction: 2, 3, 4 and 0, each exactly under its own condition and no earlier one; 2 by the bytes that it touches.
 -- Assumes nothing.
+use Rattle.std.proofs.Common.{Ok, Err, Option, Some, None}
 use Prim.Native.Nat.{ℕ}
 use borrow.Author.Tests.{eqb-false}
 use denote.Enum.Declared.{tag_of as variant}
@@ -11,12 +12,10 @@ use mathlib.Core.Path.{◌≡◌, refl, sym, ap, ◌∙◌}
 use native.Mathlib.Omega.{arith}
 use Rattle.instruction_rules.specs.contracts.Shape.{the_type as shapes}
 use Rattle.instruction_rules.specs.Lengths.{length_of}
-use Rattle.instruction_rules.specs.Reading.{number_of}
-use Rattle.instruction_rules.specs.declared.Decoded.{Decoded}
-use Rattle.instruction_rules.specs.declared.Decoded.TheVariants.{Instruction, NoInstruction, ControlUsed}
+use Rattle.instruction_rules.specs.Reading.{decoded_number}
+use Rattle.instruction_rules.specs.Decoded.{Decoded}
+use Rattle.instruction_rules.specs.declared.Unread.TheVariants.{NoInstruction, ControlUsed}
 use Rattle.instruction_rules.specs.declared.Memory.{Memory}
-use Rattle.instruction_rules.specs.declared.Second.{Second}
-use Rattle.instruction_rules.specs.declared.Second.TheVariants.{Operand, NoSecond}
 use Rattle.instruction_rules.specs.declared.Shape.TheVariants.{Nop, Sintr, Xfer, Wid, Hlt, Lpdi, RegisterImmediate, Register, JumpRegister, RegisterMemory, MemoryRegister, MemoryImmediate, MemoryAlone, JumpMemory, Lpd, MovpLoad, MovpStore, MovMemory, Tsl, Call, JumpMasked, JumpBit, Bit}
 use Rattle.ground_rules.proofs.OutcomeLaws.{unless-true, both-tested}
 use Rattle.ground_rules.proofs.StageLaws.{two-exactly, none-refused}
@@ -45,27 +44,27 @@ use Rattle.instruction_rules.proofs.OutcomeLaws.{number_is}
 
 -- the first two bytes are an instruction: else 3
 is_code : Decoded → Bool
-is_code (Instruction s) = true
-is_code NoInstruction = false
-is_code ControlUsed = true
+is_code (Ok s) = true
+is_code (Err NoInstruction) = false
+is_code (Err ControlUsed) = true
 
 told-code : (d : Decoded) → Told (is_code d) (NoCode d)
 unfolding is_code
-told-code (Instruction s) = told-true (λ h. apart (ap is_code h))
-told-code NoInstruction = told-false refl
-told-code ControlUsed = told-true (λ h. apart (ap is_code h))
+told-code (Ok s) = told-true (λ h. apart (ap is_code h))
+told-code (Err NoInstruction) = told-false refl
+told-code (Err ControlUsed) = told-true (λ h. apart (ap is_code h))
 
 -- they use CC by MOV and MOVI alone: else 4
 is_free : Decoded → Bool
-is_free (Instruction s) = true
-is_free NoInstruction = true
-is_free ControlUsed = false
+is_free (Ok s) = true
+is_free (Err NoInstruction) = true
+is_free (Err ControlUsed) = false
 
 told_free : (d : Decoded) → Told (is_free d) (ControlTouched d)
 unfolding is_free
-told_free (Instruction s) = told-true (λ h. apart (ap is_free h))
-told_free NoInstruction = told-true (λ h. apart (ap is_free h))
-told_free ControlUsed = told-false refl
+told_free (Ok s) = told-true (λ h. apart (ap is_free h))
+told_free (Err NoInstruction) = told-true (λ h. apart (ap is_free h))
+told_free (Err ControlUsed) = told-false refl
 
 -- the number of a second pair: 3 where it is none, and 0 for every other shape
 record Paired (d : Decoded) (m : Buffers) (c : Channel) (busy : ℕ) : Type 0 where
@@ -74,12 +73,12 @@ record Paired (d : Decoded) (m : Buffers) (c : Channel) (busy : ℕ) : Type 0 wh
   told : Told ok (NoSecondPair d m c)
 
 shape_in : Decoded → ℕ
-shape_in (Instruction s) = variant shapes s
-shape_in NoInstruction = 0
-shape_in ControlUsed = 0
+shape_in (Ok s) = variant shapes s
+shape_in (Err NoInstruction) = 0
+shape_in (Err ControlUsed) = 0
 
 -- one memory operand has not both kinds of a second pair
-clash : (f : Memory → Second) (o o' q : Memory) → f o ≡ Operand q → Instruction (MovMemory o) ≡ Instruction (MovMemory o') → f o' ≡ NoSecond → ⊥
+clash : (f : Memory → Option Memory) (o o' q : Memory) → f o ≡ Some q → ◌≡◌ {A = Decoded} (Ok (MovMemory o)) (Ok (MovMemory o')) → f o' ≡ None → ⊥
 clash f o o' q e i n = let z : ◌≡◌ {A = ℕ} 0 1 = cc in omega arith
 
 module _ (m : Buffers) (c : Channel) (busy : ℕ) where
@@ -87,13 +86,13 @@ module _ (m : Buffers) (c : Channel) (busy : ℕ) where
   unfolding shape_in
   alone d e ne = record { ok = true; chain = e ∙ sym (unless-true 3); told = told-true (λ h. eqb-false (shape_in d) 17 ne (ap shape_in h.1.0)) }
 
-  paired : (o : Memory) → Paired (Instruction (MovMemory o)) m c busy
+  paired : (o : Memory) → Paired (Ok (MovMemory o)) m c busy
   unfolding deed_from deed_of performed mov_memory_deed mov_second_deed mov_operand_deed unless
   paired o = go (second_at m c.tp o) refl
     where
-      go : (q : Second) → second_at m c.tp o ≡ q → Paired (Instruction (MovMemory o)) m c busy
-      go (Operand q) e = record { ok = true; chain = rw e; told = told-true (λ h. clash (second_at m c.tp) o h.0 q e h.1.0 h.1.1) }
-      go NoSecond e = record { ok = false; chain = rw e; told = told-false (o, (refl, e)) }
+      go : (q : Option Memory) → second_at m c.tp o ≡ q → Paired (Ok (MovMemory o)) m c busy
+      go (Some q) e = record { ok = true; chain = rw e; told = told-true (λ h. clash (second_at m c.tp) o h.0 q e h.1.0 h.1.1) }
+      go None e = record { ok = false; chain = rw e; told = told-false (o, (refl, e)) }
 
   tsl-alone : (x : Channel) (o : Memory) (b : Bool) → eqb (byte_here m (effective m x o c.tp)) 0 ≡ b → (tsl_deed m x c.tp o).second ≡ 0
   unfolding tsl_deed
@@ -102,40 +101,40 @@ module _ (m : Buffers) (c : Channel) (busy : ℕ) where
 
   paired-of : (d : Decoded) → Paired d m c busy
   unfolding deed_from deed_of performed nop_deed sintr_deed xfer_deed wid_deed hlt_deed lpdi_deed register_immediate_deed register_deed jump_register_deed register_memory_deed memory_register_deed memory_immediate_deed memory_work_deed memory_alone_deed jump_memory_deed lpd_deed movp_load_deed movp_store_deed call_deed jump_masked_deed jump_bit_deed jump_byte_deed bit_deed shape_in
-  paired-of NoInstruction = alone NoInstruction refl refl
-  paired-of ControlUsed = alone ControlUsed refl refl
-  paired-of (Instruction Nop) = alone (Instruction Nop) refl refl
-  paired-of (Instruction Sintr) = alone (Instruction Sintr) refl refl
-  paired-of (Instruction Xfer) = alone (Instruction Xfer) refl refl
-  paired-of (Instruction (Wid source destination)) = alone (Instruction (Wid source destination)) refl refl
-  paired-of (Instruction Hlt) = alone (Instruction Hlt) refl refl
-  paired-of (Instruction (Lpdi ppp)) = alone (Instruction (Lpdi ppp)) refl refl
-  paired-of (Instruction (RegisterImmediate work rrr wide)) = alone (Instruction (RegisterImmediate work rrr wide)) refl refl
-  paired-of (Instruction (Register single rrr)) = alone (Instruction (Register single rrr)) refl refl
-  paired-of (Instruction (JumpRegister test rrr two)) = alone (Instruction (JumpRegister test rrr two)) refl refl
-  paired-of (Instruction (RegisterMemory work rrr o)) = alone (Instruction (RegisterMemory work rrr o)) refl refl
-  paired-of (Instruction (MemoryRegister work rrr o)) = alone (Instruction (MemoryRegister work rrr o)) refl refl
-  paired-of (Instruction (MemoryImmediate work o)) = alone (Instruction (MemoryImmediate work o)) refl refl
-  paired-of (Instruction (MemoryAlone single o)) = alone (Instruction (MemoryAlone single o)) refl refl
-  paired-of (Instruction (JumpMemory test o two)) = alone (Instruction (JumpMemory test o two)) refl refl
-  paired-of (Instruction (Lpd ppp o)) = alone (Instruction (Lpd ppp o)) refl refl
-  paired-of (Instruction (MovpLoad ppp o)) = alone (Instruction (MovpLoad ppp o)) refl refl
-  paired-of (Instruction (MovpStore ppp o)) = alone (Instruction (MovpStore ppp o)) refl refl
-  paired-of (Instruction (MovMemory o)) = paired o
-  paired-of (Instruction (Tsl o)) = alone (Instruction (Tsl o)) (tsl-alone (past_instruction c (length_of (Tsl o))) o (eqb (byte_here m (effective m (past_instruction c (length_of (Tsl o))) o c.tp)) 0) refl) refl
-  paired-of (Instruction (Call o two)) = alone (Instruction (Call o two)) refl refl
-  paired-of (Instruction (JumpMasked equal o two)) = alone (Instruction (JumpMasked equal o two)) refl refl
-  paired-of (Instruction (JumpBit test bit o two)) = alone (Instruction (JumpBit test bit o two)) refl refl
-  paired-of (Instruction (Bit on bit o)) = alone (Instruction (Bit on bit o)) refl refl
+  paired-of (Err NoInstruction) = alone (Err NoInstruction) refl refl
+  paired-of (Err ControlUsed) = alone (Err ControlUsed) refl refl
+  paired-of (Ok Nop) = alone (Ok Nop) refl refl
+  paired-of (Ok Sintr) = alone (Ok Sintr) refl refl
+  paired-of (Ok Xfer) = alone (Ok Xfer) refl refl
+  paired-of (Ok (Wid source destination)) = alone (Ok (Wid source destination)) refl refl
+  paired-of (Ok Hlt) = alone (Ok Hlt) refl refl
+  paired-of (Ok (Lpdi ppp)) = alone (Ok (Lpdi ppp)) refl refl
+  paired-of (Ok (RegisterImmediate work rrr wide)) = alone (Ok (RegisterImmediate work rrr wide)) refl refl
+  paired-of (Ok (Register single rrr)) = alone (Ok (Register single rrr)) refl refl
+  paired-of (Ok (JumpRegister test rrr two)) = alone (Ok (JumpRegister test rrr two)) refl refl
+  paired-of (Ok (RegisterMemory work rrr o)) = alone (Ok (RegisterMemory work rrr o)) refl refl
+  paired-of (Ok (MemoryRegister work rrr o)) = alone (Ok (MemoryRegister work rrr o)) refl refl
+  paired-of (Ok (MemoryImmediate work o)) = alone (Ok (MemoryImmediate work o)) refl refl
+  paired-of (Ok (MemoryAlone single o)) = alone (Ok (MemoryAlone single o)) refl refl
+  paired-of (Ok (JumpMemory test o two)) = alone (Ok (JumpMemory test o two)) refl refl
+  paired-of (Ok (Lpd ppp o)) = alone (Ok (Lpd ppp o)) refl refl
+  paired-of (Ok (MovpLoad ppp o)) = alone (Ok (MovpLoad ppp o)) refl refl
+  paired-of (Ok (MovpStore ppp o)) = alone (Ok (MovpStore ppp o)) refl refl
+  paired-of (Ok (MovMemory o)) = paired o
+  paired-of (Ok (Tsl o)) = alone (Ok (Tsl o)) (tsl-alone (past_instruction c (length_of (Tsl o))) o (eqb (byte_here m (effective m (past_instruction c (length_of (Tsl o))) o c.tp)) 0) refl) refl
+  paired-of (Ok (Call o two)) = alone (Ok (Call o two)) refl refl
+  paired-of (Ok (JumpMasked equal o two)) = alone (Ok (JumpMasked equal o two)) refl refl
+  paired-of (Ok (JumpBit test bit o two)) = alone (Ok (JumpBit test bit o two)) refl refl
+  paired-of (Ok (Bit on bit o)) = alone (Ok (Bit on bit o)) refl refl
 
   -- ---- the chain of checks
 
   -- what is judged of the first two bytes, as two tests
-  coded : (d : Decoded) (rest : ℕ) → first (number_of d) rest ≡ first (unless (is_code d) 3) (first (unless (is_free d) 4) rest)
+  coded : (d : Decoded) (rest : ℕ) → first (decoded_number d) rest ≡ first (unless (is_code d) 3) (first (unless (is_free d) 4) rest)
   unfolding first unless is_code is_free
-  coded (Instruction s) rest = refl
-  coded NoInstruction rest = refl
-  coded ControlUsed rest = refl
+  coded (Ok s) rest = refl
+  coded (Err NoInstruction) rest = refl
+  coded (Err ControlUsed) rest = refl
 
   -- the number of the stages, as the chain of its tests
   chain-of : (d : Decoded) → stages_number m (stages_from d m c busy)
@@ -185,10 +184,10 @@ module _ (m : Buffers) (c : Channel) (busy : ℕ) where
   -- ---- the bytes that it touches
 
   -- no stage judges 2
-  coded-else : (d : Decoded) → eqb (number_of d) 2 ≡ false
-  coded-else (Instruction s) = refl
-  coded-else NoInstruction = refl
-  coded-else ControlUsed = refl
+  coded-else : (d : Decoded) → eqb (decoded_number d) 2 ≡ false
+  coded-else (Ok s) = refl
+  coded-else (Err NoInstruction) = refl
+  coded-else (Err ControlUsed) = refl
 
   paired-else : (ok : Bool) → eqb (unless ok 3) 2 ≡ false
   unfolding unless

@@ -1,5 +1,6 @@
 -- What the answers to a pair are: 0, 3 or 4, and each exactly when the table says so.
 -- Assumes nothing.
+use Rattle.std.proofs.Common.{Ok, Err}
 use mathlib.Core.Path.{◌≡◌, refl, sym, ap, subst, ◌∙◌}
 use mathlib.Core.Bool.{Bool, true, false, not, ◌&&◌, ◌||◌, and-false, false≢true}
 use mathlib.Core.List.{List, [], ◌∷◌}
@@ -15,30 +16,30 @@ use Rattle.instruction_rules.specs.declared.Pair.{Pair}
 use Rattle.instruction_rules.specs.declared.Work.{Work}
 use Rattle.instruction_rules.specs.declared.Shape.{Shape}
 use Rattle.instruction_rules.specs.declared.Shape.TheVariants.{Wid, RegisterImmediate, Hlt, Call}
-use Rattle.instruction_rules.specs.declared.Decoded.{Decoded}
-use Rattle.instruction_rules.specs.declared.Decoded.TheVariants.{Instruction, NoInstruction, ControlUsed}
+use Rattle.instruction_rules.specs.Decoded.{Decoded}
+use Rattle.instruction_rules.specs.declared.Unread.TheVariants.{NoInstruction, ControlUsed}
 use Rattle.instruction_rules.specs.Table.{SummaryRow, table}
-use Rattle.instruction_rules.specs.Reading.{fits, lookup, decode_of, number_of, fits_some, uses_control}
+use Rattle.instruction_rules.specs.Reading.{fits, lookup, decode_of, decoded_number, fits_some, uses_control}
 use Rattle.instruction_rules.proofs.TableLaws.{left, right}
 
 -- an answer's number is 0, 3 or 4
-pub numbers : (d : Decoded) → (number_of d ≡ 0) ⊎ ((number_of d ≡ 3) ⊎ (number_of d ≡ 4))
-numbers (Instruction s) = inl refl
-numbers NoInstruction = inr (inl refl)
-numbers ControlUsed = inr (inr refl)
+pub numbers : (d : Decoded) → (decoded_number d ≡ 0) ⊎ ((decoded_number d ≡ 3) ⊎ (decoded_number d ≡ 4))
+numbers (Ok s) = inl refl
+numbers (Err NoInstruction) = inr (inl refl)
+numbers (Err ControlUsed) = inr (inr refl)
 
 -- 0 is the number of an instruction and of nothing else, so no pair is both an instruction and refused
-pub zero-exactly : (d : Decoded) → (number_of d ≡ 0) ↔ ((s : Shape) × (d ≡ Instruction s))
-zero-exactly (Instruction s) = (λ e. (s, refl), λ e. refl)
-zero-exactly NoInstruction = (λ e. absurd (eqb-false 3 0 refl e), λ e. ap number_of e.1)
-zero-exactly ControlUsed = (λ e. absurd (eqb-false 4 0 refl e), λ e. ap number_of e.1)
+pub zero-exactly : (d : Decoded) → (decoded_number d ≡ 0) ↔ ((s : Shape) × (d ≡ Ok s))
+zero-exactly (Ok s) = (λ e. (s, refl), λ e. refl)
+zero-exactly (Err NoInstruction) = (λ e. absurd (eqb-false 3 0 refl e), λ e. ap decoded_number e.1)
+zero-exactly (Err ControlUsed) = (λ e. absurd (eqb-false 4 0 refl e), λ e. ap decoded_number e.1)
 
-unknown : (rs : List SummaryRow) (p : Pair) → eqb (number_of (lookup rs p)) 3 ≡ not (fits_some rs p)
+unknown : (rs : List SummaryRow) (p : Pair) → eqb (decoded_number (lookup rs p)) 3 ≡ not (fits_some rs p)
 unfolding lookup fits_some
 unknown [] p = refl
 unknown (r ∷ rs) p = go (fits r p) (r.control && is_control p) (unknown rs p)
   where
-    go : (f u : Bool) → eqb (number_of (lookup rs p)) 3 ≡ not (fits_some rs p) → eqb (number_of (pick f (pick u ControlUsed (Instruction (r.shape p))) (lookup rs p))) 3 ≡ not (f || fits_some rs p)
+    go : (f u : Bool) → eqb (decoded_number (lookup rs p)) 3 ≡ not (fits_some rs p) → eqb (decoded_number (pick f (pick u (Err ControlUsed) (Ok (r.shape p))) (lookup rs p))) 3 ≡ not (f || fits_some rs p)
     go true true e = refl
     go true false e = refl
     go false u e = e
@@ -48,11 +49,11 @@ flip b true e = (λ t. sym t ∙ e, λ t. e ∙ ap not t)
 flip b false e = (λ t. refl, λ t. e)
 
 -- 3 is given exactly where the pair is of no row
-pub three-exactly : (first second : ℕ) → (number_of (decode_of first second) ≡ 3) ↔ (fits_some table (pair_of first second) ≡ false)
+pub three-exactly : (first second : ℕ) → (decoded_number (decode_of first second) ≡ 3) ↔ (fits_some table (pair_of first second) ≡ false)
 unfolding decode_of
 three-exactly first second =
     let p = pair_of first second in
-    let n = number_of (lookup table p) in
+    let n = decoded_number (lookup table p) in
     let f = flip (eqb n 3) (fits_some table p) (unknown table p) in
     (λ e. f.0 (eq-eqb n 3 e), λ e. eqb-true n 3 (f.1 e))
 
@@ -87,15 +88,15 @@ same-opcode r p h = go (eqb p.opcode r.opcode) refl h
     go true e t = eqb-true p.opcode r.opcode e
     go false e t = absurd (false≢true t)
 
-used : (rs : List SummaryRow) (p : Pair) → T (apart rs) → eqb (number_of (lookup rs p)) 4 ≡ (uses_control rs p && is_control p)
+used : (rs : List SummaryRow) (p : Pair) → T (apart rs) → eqb (decoded_number (lookup rs p)) 4 ≡ (uses_control rs p && is_control p)
 unfolding lookup uses_control apart
 used [] p t = refl
 used (r ∷ rs) p t = go (fits r p) refl r.control (used rs p (right (spares r rs) (apart rs) t)) (left (spares r rs) (apart rs) t)
   where
-    go : (f : Bool) → fits r p ≡ f → (c : Bool) → eqb (number_of (lookup rs p)) 4 ≡ (uses_control rs p && is_control p) → T (spares r rs) → eqb (number_of (pick f (pick (c && is_control p) ControlUsed (Instruction (r.shape p))) (lookup rs p))) 4 ≡ ((f && c || uses_control rs p) && is_control p)
+    go : (f : Bool) → fits r p ≡ f → (c : Bool) → eqb (decoded_number (lookup rs p)) 4 ≡ (uses_control rs p && is_control p) → T (spares r rs) → eqb (decoded_number (pick f (pick (c && is_control p) (Err ControlUsed) (Ok (r.shape p))) (lookup rs p))) 4 ≡ ((f && c || uses_control rs p) && is_control p)
     go true h true e u = answered (is_control p)
       where
-        answered : (b : Bool) → eqb (number_of (pick b ControlUsed (Instruction (r.shape p)))) 4 ≡ b
+        answered : (b : Bool) → eqb (decoded_number (pick b (Err ControlUsed) (Ok (r.shape p)))) 4 ≡ b
         answered true = refl
         answered false = refl
     go true h false e u = rw (spared r rs p (same-opcode r p h) u)
@@ -106,44 +107,44 @@ both a true c e = (λ t. (sym e ∙ t, refl), λ t. e ∙ t.0)
 both a false c e = (λ t. absurd (false≢true (sym e ∙ t)), λ t. absurd (false≢true t.1))
 
 -- 4 is given exactly where RRR is 6 and the pair is of a row at which that is a use of CC
-pub four-exactly : (first second : ℕ) → (number_of (decode_of first second) ≡ 4) ↔ (((pair_of first second).rrr ≡ 6) × (uses_control table (pair_of first second) ≡ true))
+pub four-exactly : (first second : ℕ) → (decoded_number (decode_of first second) ≡ 4) ↔ (((pair_of first second).rrr ≡ 6) × (uses_control table (pair_of first second) ≡ true))
 unfolding decode_of apart spares table
 four-exactly first second =
     let p = pair_of first second in
-    let n = number_of (lookup table p) in
+    let n = decoded_number (lookup table p) in
     let f = both (eqb n 4) (uses_control table p) (is_control p) (used table p tt) in
     (λ e. let g = f.0 (eq-eqb n 4 e) in (eqb-true p.rrr 6 g.0, g.1), λ e. eqb-true n 4 (f.1 (eq-eqb p.rrr 6 e.0, e.1)))
 
 -- some pairs: MOVI GA with a byte, MOVI BC with a word, JMP as ADDI to TP, HLT, WID of two words, and CALL with W 0
-pub movi-byte : decode_of 0x08 0x30 ≡ Instruction (RegisterImmediate Work.Mov 0 false)
+pub movi-byte : decode_of 0x08 0x30 ≡ Ok (RegisterImmediate Work.Mov 0 false)
 unfolding decode_of lookup table pair_of field_of
 movi-byte = refl
 
-pub movi-word : decode_of 0x71 0x30 ≡ Instruction (RegisterImmediate Work.Mov 3 true)
+pub movi-word : decode_of 0x71 0x30 ≡ Ok (RegisterImmediate Work.Mov 3 true)
 unfolding decode_of lookup table pair_of field_of
 movi-word = refl
 
-pub jump : decode_of 0x88 0x20 ≡ Instruction (RegisterImmediate Work.Add 4 false)
+pub jump : decode_of 0x88 0x20 ≡ Ok (RegisterImmediate Work.Add 4 false)
 unfolding decode_of lookup table pair_of field_of
 jump = refl
 
-pub halt : decode_of 0x20 0x48 ≡ Instruction Hlt
+pub halt : decode_of 0x20 0x48 ≡ Ok Hlt
 unfolding decode_of lookup table pair_of field_of
 halt = refl
 
-pub wid-words : decode_of 0xE0 0x00 ≡ Instruction (Wid true true)
+pub wid-words : decode_of 0xE0 0x00 ≡ Ok (Wid true true)
 unfolding decode_of lookup table pair_of field_of bit_of
 wid-words = refl
 
-pub call-byte : decode_of 0x88 0x9C ≡ Instruction (Call (record { mm = 0; aa = 0; wide = false }) false)
+pub call-byte : decode_of 0x88 0x9C ≡ Ok (Call (record { mm = 0; aa = 0; wide = false }) false)
 unfolding decode_of lookup table pair_of field_of
 call-byte = refl
 
 -- and some that are none: ADDI with W 0 and two bytes of data, and the second pair of MOV M,M in the place of a first one
-pub addi-uneven : decode_of 0x10 0x20 ≡ NoInstruction
+pub addi-uneven : decode_of 0x10 0x20 ≡ Err NoInstruction
 unfolding decode_of lookup table pair_of field_of
 addi-uneven = refl
 
-pub second-first : decode_of 0x00 0xCC ≡ NoInstruction
+pub second-first : decode_of 0x00 0xCC ≡ Err NoInstruction
 unfolding decode_of lookup table pair_of field_of
 second-first = refl

@@ -1,5 +1,6 @@
 -- The summary by its opcodes: a pair is what the rows with its own opcode say.
 -- Assumes nothing.
+use Rattle.std.proofs.Common.{Ok, Err}
 use mathlib.Core.Path.{◌≡◌, refl, ap}
 use mathlib.Core.Bool.{Bool, true, false, ◌&&◌}
 use mathlib.Core.List.{List, [], ◌∷◌}
@@ -10,8 +11,8 @@ use Rattle.ground_rules.specs.Choice.{pick}
 use Rattle.instruction_rules.specs.Pairs.{columns}
 use Rattle.instruction_rules.specs.Rows.{reading, is_control}
 use Rattle.instruction_rules.specs.declared.Pair.{Pair}
-use Rattle.instruction_rules.specs.declared.Decoded.{Decoded}
-use Rattle.instruction_rules.specs.declared.Decoded.TheVariants.{Instruction, ControlUsed}
+use Rattle.instruction_rules.specs.Decoded.{Decoded}
+use Rattle.instruction_rules.specs.declared.Unread.TheVariants.{ControlUsed}
 use Rattle.instruction_rules.specs.Table.{SummaryRow}
 use Rattle.instruction_rules.specs.Reading.{fits, lookup}
 
@@ -45,7 +46,7 @@ own-rows [] p = refl
 own-rows (r ∷ rs) p = go (eqb p.opcode r.opcode) refl (own-rows rs p)
   where
     go : (b : Bool) → eqb p.opcode r.opcode ≡ b → lookup rs p ≡ lookup (rows_at p.opcode rs) p → lookup (r ∷ rs) p ≡ lookup (keep_if b r (rows_at p.opcode rs)) p
-    go true e rest = ap (λ (d : Decoded). pick (fits r p) (pick (r.control && is_control p) ControlUsed (Instruction (r.shape p))) d) rest
+    go true e rest = ap (λ (d : Decoded). pick (fits r p) (pick (r.control && is_control p) (Err ControlUsed) (Ok (r.shape p))) d) rest
     go false e rest = rw e rest
 
 -- what a row says of a pair with its opcode

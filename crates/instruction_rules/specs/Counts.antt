@@ -1,10 +1,9 @@
 -- How many bytes an instruction of each shape reads and stores, each access once (§6.6, §6.22).
-use Rattle.std.specs.Prelude.{Bool, ℕ, ◌+◌, eqb}
+use Rattle.std.specs.Prelude.{Bool, ℕ, ◌+◌, eqb, Option, Some, None}
 use Rattle.ground_rules.specs.Choice.{pick}
 use Rattle.ground_rules.specs.Buffers.{Buffers}
 use Rattle.ground_rules.specs.declared.Channel.{Channel}
-use Rattle.instruction_rules.specs.declared.Second.{Second}
-use Rattle.instruction_rules.specs.declared.Second.TheVariants.{Operand, NoSecond}
+use Rattle.instruction_rules.specs.declared.Memory.{Memory}
 use Rattle.instruction_rules.specs.declared.Shape.{Shape}
 use Rattle.instruction_rules.specs.declared.Shape.TheVariants.{Nop, Sintr, Xfer, Wid, Hlt, Lpdi, RegisterImmediate, Register, JumpRegister, RegisterMemory, MemoryRegister, MemoryImmediate, MemoryAlone, JumpMemory, Lpd, MovpLoad, MovpStore, MovMemory, Tsl, Call, JumpMasked, JumpBit, Bit}
 use Rattle.instruction_rules.specs.Lengths.{offset_length, length_of}
@@ -12,9 +11,9 @@ use Rattle.instruction_rules.specs.Operands.{byte_here, size_of, effective}
 use Rattle.instruction_rules.specs.MemoryForms.{read_first, second_at}
 
 -- what MOV M,M accesses once its second pair is read: that pair's offset byte, what is read and what is stored
-unfoldable pub second_count : Second → Bool → ℕ
-second_count (Operand q) wide = offset_length q + size_of wide + size_of wide
-second_count NoSecond wide = 0
+unfoldable pub second_count : Option Memory → Bool → ℕ
+second_count (Some q) wide = offset_length q + size_of wide + size_of wide
+second_count None wide = 0
 
 -- what an instruction of each shape accesses besides the bytes of `length_of`: a second pair's offset byte, the operand bytes that it reads, those that it stores
 unfoldable pub access_count : Shape → Buffers → Channel → ℕ

@@ -1,5 +1,5 @@
 -- One instruction of a channel: decoded, tested stage by stage, and done or refused (§6.22).
-use Rattle.std.specs.Prelude.{Bool, List, [], ◌∷◌, ◌++◌, ℕ, ◌-◌, eqb}
+use Rattle.std.specs.Prelude.{Bool, List, [], ◌∷◌, ◌++◌, ℕ, ◌-◌, eqb, Ok, Err}
 use Rattle.ground_rules.specs.Choice.{pick}
 use Rattle.ground_rules.specs.Buffers.{Buffers}
 use Rattle.ground_rules.specs.Values.{onward}
@@ -10,9 +10,8 @@ use Rattle.ground_rules.specs.declared.Channel.{Channel}
 use Rattle.ground_rules.specs.Stages.{Stage, stage, stages_number, stages_touched}
 use Rattle.instruction_rules.specs.declared.Shape.{Shape}
 use Rattle.instruction_rules.specs.declared.Shape.TheVariants.{Nop, Sintr, Xfer, Wid, Hlt, Lpdi, RegisterImmediate, Register, JumpRegister, RegisterMemory, MemoryRegister, MemoryImmediate, MemoryAlone, JumpMemory, Lpd, MovpLoad, MovpStore, MovMemory, Tsl, Call, JumpMasked, JumpBit, Bit}
-use Rattle.instruction_rules.specs.declared.Decoded.{Decoded}
-use Rattle.instruction_rules.specs.declared.Decoded.TheVariants.{Instruction, NoInstruction, ControlUsed}
-use Rattle.instruction_rules.specs.Reading.{decode_of, number_of}
+use Rattle.instruction_rules.specs.Decoded.{Decoded}
+use Rattle.instruction_rules.specs.Reading.{decode_of, decoded_number}
 use Rattle.instruction_rules.specs.Lengths.{length_of}
 use Rattle.instruction_rules.specs.Operands.{byte_here, bytes_at}
 use Rattle.instruction_rules.specs.Marks.{past_instruction}
@@ -63,28 +62,25 @@ later_bytes s c = bytes_at (onward c.tp 2) (length_of s - 2)
 
 -- the deed where there is an instruction; where there is none, none
 unfoldable pub deed_from : Decoded → Buffers → Channel → ℕ → Deed
-deed_from (Instruction s) m c busy = deed_of s m c busy
-deed_from NoInstruction m c busy = deed [] c nothing
-deed_from ControlUsed m c busy = deed [] c nothing
+deed_from (Ok s) m c busy = deed_of s m c busy
+deed_from (Err unread) m c busy = deed [] c nothing
 
 -- the bytes after the pair where it is an instruction
 unfoldable pub later_from : Decoded → Channel → List Place
-later_from (Instruction s) c = later_bytes s c
-later_from NoInstruction c = []
-later_from ControlUsed c = []
+later_from (Ok s) c = later_bytes s c
+later_from (Err unread) c = []
 
 -- how many bytes it then has, without the offset byte of a second pair
 unfoldable pub length_from : Decoded → ℕ
-length_from (Instruction s) = length_of s
-length_from NoInstruction = 0
-length_from ControlUsed = 0
+length_from (Ok s) = length_of s
+length_from (Err unread) = 0
 
 -- the stages of an instruction, d being what its first two bytes are
 unfoldable pub stages_from : Decoded → Buffers → Channel → ℕ → List Stage
 stages_from d m c busy =
     let done = deed_from d m c busy in
     -- its first two bytes; then 3 and 4, as far as they show
-    stage (bytes_at c.tp 2) (number_of d)
+    stage (bytes_at c.tp 2) (decoded_number d)
     -- the later bytes, up to and with a second pair; then 3 from that pair
     ∷ stage (later_from d c) done.second
     -- the offset byte of a second pair, the operand bytes that are read and those that are stored to, for HLT its BUSY byte

@@ -1,4 +1,6 @@
 pub mod Pairs
+pub mod Decoded
+pub mod Unread
 pub mod Rows
 pub mod Table
 pub mod Lengths

@@ -1,5 +1,5 @@
 -- Instructions whose result goes into memory.
-use Rattle.std.specs.Prelude.{Bool, false, [], ◌++◌, ℕ, ltb}
+use Rattle.std.specs.Prelude.{Bool, false, [], ◌++◌, ℕ, ltb, Option, Some, None}
 use Rattle.ground_rules.specs.Choice.{pick}
 use Rattle.ground_rules.specs.Bits.{with_bit}
 use Rattle.ground_rules.specs.Buffers.{Buffers}
@@ -8,8 +8,6 @@ use Rattle.ground_rules.specs.declared.Pointer.{Pointer}
 use Rattle.ground_rules.specs.declared.Channel.{Channel}
 use Rattle.ground_rules.specs.Registers.{register_of, tag_of}
 use Rattle.instruction_rules.specs.declared.Memory.{Memory}
-use Rattle.instruction_rules.specs.declared.Second.{Second}
-use Rattle.instruction_rules.specs.declared.Second.TheVariants.{Operand, NoSecond}
 use Rattle.instruction_rules.specs.declared.Work.{Work}
 use Rattle.instruction_rules.specs.declared.Single.{Single}
 use Rattle.instruction_rules.specs.Reading.{second_of, second_number_of}
@@ -74,12 +72,12 @@ mov_operand_deed m c tp o q =
     (result_to (effective m c₁ q pair) o.wide (operand_at m at o.wide))
 
 -- MOV M,M with what its second pair is
-unfoldable pub mov_second_deed : Buffers → Channel → Pointer → Memory → Second → Deed
-mov_second_deed m c tp o NoSecond = record { second = second_number_of NoSecond; reads = []; channel = c; change = nothing }
-mov_second_deed m c tp o (Operand q) = mov_operand_deed m c tp o q
+unfoldable pub mov_second_deed : Buffers → Channel → Pointer → Memory → Option Memory → Deed
+mov_second_deed m c tp o None = record { second = second_number_of None; reads = []; channel = c; change = nothing }
+mov_second_deed m c tp o (Some q) = mov_operand_deed m c tp o q
 
 -- what the second pair of a MOV M,M at tp is
-unfoldable pub second_at : Buffers → Pointer → Memory → Second
+unfoldable pub second_at : Buffers → Pointer → Memory → Option Memory
 second_at m tp o =
     let pair = after_pair tp o in
     second_of (byte_here m pair) (byte_here m (onward pair 1)) o.wide

@@ -1,10 +1,13 @@
 // Types of the rules of instructions: what a pair of bytes stands for, and what an instruction comes to.
 #![tactic(auto)]
 
-use ground_rules::Pointer;
+ghost use Rattle.std.specs.Prelude.{◌≡◌};
+ghost use Rattle.instruction_rules.specs.Unread.{refusal_of};
+
+use ground_rules::{Pointer, Refusal};
 
 // The memory operand of a pair: MM, AA and W.
-#[derive(Clone, Copy)]
+#[derive(Clone, Copy, PartialEq, Eq)]
 pub struct Memory {
     pub mm: u32,
     pub aa: u32,
@@ -12,7 +15,7 @@ pub struct Memory {
 }
 
 // What an instruction with two operands does with them.
-#[derive(Clone, Copy)]
+#[derive(Clone, Copy, PartialEq, Eq)]
 pub enum Work {
     Mov,
     Add,
@@ -22,7 +25,7 @@ pub enum Work {
 }
 
 // What an instruction with one operand does with it.
-#[derive(Clone, Copy)]
+#[derive(Clone, Copy, PartialEq, Eq)]
 pub enum Single {
     Not,
     Inc,
@@ -30,7 +33,7 @@ pub enum Single {
 }
 
 // An instruction as its pair shows it; the bytes that follow the pair are not yet read.
-#[derive(Clone, Copy)]
+#[derive(Clone, Copy, PartialEq, Eq)]
 pub enum Shape {
     Nop,
     Sintr,
@@ -120,23 +123,29 @@ pub enum Shape {
     },
 }
 
-// What a first pair is: an instruction, or a refusal by 3 or by 4.
-#[derive(Clone, Copy)]
-pub enum Decoded {
-    Instruction(Shape),
+// Why a first pair is no instruction that can be done: it is of no row of the table, or it uses CC where it may not.
+#[derive(Clone, Copy, PartialEq, Eq)]
+pub enum Unread {
     NoInstruction,
     ControlUsed,
 }
 
-// What the second pair of MOV M,M is: the operand stored to, or a refusal by 3.
-#[derive(Clone, Copy)]
-pub enum Second {
-    Operand(Memory),
-    NoSecond,
+impl From<Unread> for Refusal {
+    ghost from_gives = { λ unread refusal. refusal ≡ refusal_of unread };
+
+    fn from(unread: Unread) -> Refusal {
+        match unread {
+            Unread::NoInstruction => Refusal::NotAnInstruction,
+            Unread::ControlUsed => Refusal::ControlNamed,
+        }
+    }
 }
 
+// What a first pair is: an instruction, or why it is none.
+pub type Decoded = Result<Shape, Unread>;
+
 // The fields of a pair: RRR, dd, AA and W of its first byte, opcode and MM of its second.
-#[derive(Clone, Copy)]
+#[derive(Clone, Copy, PartialEq, Eq)]
 pub struct Pair {
     pub rrr: u32,
     pub dd: u32,
@@ -147,14 +156,14 @@ pub struct Pair {
 }
 
 // A pair looked up: what it is, and the bytes of the instruction that it begins.
-#[derive(Clone, Copy)]
+#[derive(Clone, Copy, PartialEq, Eq)]
 pub struct Looked {
     pub decoded: Decoded,
     pub length: u32,
 }
 
 // What an instruction stores: the lowest `count` bytes of a value at a place, at most three, the lowest first.
-#[derive(Clone, Copy)]
+#[derive(Clone, Copy, PartialEq, Eq)]
 pub struct Change {
     pub count: u32,
     pub at: Pointer,

@@ -4,3 +4,4 @@ pub mod RowLaws
 pub mod ListLaws
 pub mod Determined
 pub mod Readers
+pub mod StepLaws

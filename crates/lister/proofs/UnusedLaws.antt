@@ -1,5 +1,6 @@
 -- The opcodes that no instruction has, told by one number, and the byte that begins such a pair.
 -- Assumes nothing.
+use Rattle.std.proofs.Common.{Err}
 use mathlib.Core.Path.{◌≡◌, refl, sym, ap, ◌∙◌}
 use mathlib.Core.Bool.{true}
 use mathlib.Core.List.{List}
@@ -11,7 +12,7 @@ use borrow.Author.Tests.{ltb-true}
 use Rattle.ground_rules.specs.Bits.{field_of}
 use Rattle.instruction_rules.specs.Pairs.{pair_of}
 use Rattle.instruction_rules.specs.Reading.{lookup, decode_of}
-use Rattle.instruction_rules.specs.declared.Decoded.TheVariants.{NoInstruction}
+use Rattle.instruction_rules.specs.declared.Unread.TheVariants.{NoInstruction}
 use Rattle.listing_rules.specs.Items.{read_of, item_of}
 use Rattle.listing_rules.specs.declared.Item.TheVariants.{Byte}
 use Rattle.listing_rules.proofs.ItemLaws.{item-read}
@@ -29,7 +30,7 @@ unused-bit second =
     at_each (λ (k cell : ℕ). eqb (0x90080000FFF020FA / 2 ^ k % 2) 1) (λ (k cell : ℕ). ltb cell 16) cells whole-unused (field_of second 2 6) (omega arith)
 
 -- a pair with such an opcode is none
-no-instruction : (first second : ℕ) → ltb (cell_of second) 16 ≡ true → decode_of first second ≡ NoInstruction
+no-instruction : (first second : ℕ) → ltb (cell_of second) 16 ≡ true → decode_of first second ≡ Err NoInstruction
 unfolding decode_of lookup form_rows
 no-instruction first second h =
     let low : cell_of second < 16 = ltb-true (cell_of second) 16 h in

@@ -86,8 +86,8 @@ fn two_left(text: &mut [u8], at: usize, chars: &[u8; 28], i: usize, len: usize) 
     i + 2
 }
 
-// Writes a line from an index on, eight characters at a time, then what is left: one by one the compiler takes the loop for a
-// copy, and calls a function from outside for it.
+// Writes a line from an index on, eight characters at a time, then what is left: `copy_from_slice` calls memcpy, which C would
+// have to bring along, and a loop or a zip of iterators that goes one by one is taken for the same copy.
 fn place(text: &mut [u8], at: usize, line: Line)
     requires len_in_bounds { at + line.len ≤ length text.old }
     requires len_bound { (line.len ≤ 28) × (line.len ≤ length line.chars) }

@@ -1,11 +1,11 @@
 // What stands at a place of the program bytes, and a reader that keeps its place.
-ghost use Rattle.std.specs.Prelude.{◌≡◌, ◌+◌, ◌≤◌, ltb, length, drop};
+ghost use Rattle.std.specs.Prelude.{◌≡◌, ◌+◌, ◌^◌, ◌<◌, ◌≤◌, ltb, length, drop};
 ghost use Rattle.decode.specs.Cells.{cell_of};
 ghost use Rattle.instruction_rules.specs.Lengths.{offset_length};
 ghost use Rattle.instruction_rules.specs.declared.Shape.TheVariants.{MovMemory};
-ghost use Rattle.listing_rules.specs.Items.{to_of, whole_of, item_of, behind_of};
+ghost use Rattle.listing_rules.specs.Items.{to_of, whole_of, item_of, count_of};
 
-use instruction_rules::{Decoded, Memory, Second, Shape};
+use instruction_rules::{Memory, Shape};
 use listing_rules::Item;
 
 // The opcodes that no instruction has, a bit for each.
@@ -26,7 +26,7 @@ fn mov_memory(bytes: &[u8], m: Memory) -> Item
 {
     let offset = decode::offset_length(m);
     let i = offset as usize;
-    let Second::Operand(to) = decode::decode_second(bytes[2 + i], bytes[3 + i], m.wide) else {
+    let Some(to) = decode::decode_second(bytes[2 + i], bytes[3 + i], m.wide) else {
         return Item::Byte;
     };
     let length = 4 + offset + decode::offset_length(to);
@@ -55,7 +55,7 @@ fn item_of(bytes: &[u8]) -> Item
     }
     let looked = decode::look_up(bytes[0], bytes[1]);
     let decoded = looked.decoded;
-    let Decoded::Instruction(shape) = decoded else {
+    let Ok(shape) = decoded else {
         return Item::Byte;
     };
     let length = looked.length;
@@ -74,8 +74,9 @@ fn item_of(bytes: &[u8]) -> Item
 }
 
 // What stands at a position of the program bytes.
-pub fn item_at(code: &[u8], at: usize) -> Item
-    ensures { result ≡ item_of (drop at code.now) }
+pub fn read_at(code: &[u8], at: usize) -> Item
+    ensures value { result ≡ item_of (drop at code.now) }
+    ensures place { at + count_of result < 2 ^ 64 }
 {
     if code.len() < at {
         return Item::End;
@@ -83,49 +84,45 @@ pub fn item_at(code: &[u8], at: usize) -> Item
     item_of(&code[at..])
 }
 
-// The place behind what stands at a position of the program bytes.
-fn place_behind(code: &[u8], at: usize) -> usize
-    ensures { result ≡ behind_of code.now at }
-{
-    match item_at(code, at) {
-        Item::Whole { length, .. } => at + length as usize,
-        Item::Byte => at + 1,
-        Item::End => at,
-    }
-}
-
-// A reader over the program bytes: it keeps its place.
+// A reader over the program bytes: it keeps its place, and hands out one instruction at a time.
 #[derive(Clone, Copy)]
 pub struct Reader<'a> {
     pub code: &'a [u8],
     pub at: usize,
 }
 
-// A reader at a position.
-pub fn reader_at<'a>(code: &'a [u8], at: usize) -> Reader<'a>
-    ensures { (result.code ≡ code.entry) × (result.at ≡ at) }
-{
-    Reader { code, at }
+impl<'a> Reader<'a> {
+    // A reader at a position.
+    pub fn new(code: &'a [u8], at: usize) -> Reader<'a>
+        ensures { (result.code ≡ code.entry) × (result.at ≡ at) }
+    {
+        Reader { code, at }
+    }
 }
 
-// What a reader hands out next.
-pub fn next<'a>(r: Reader<'a>) -> Item
-    ensures { result ≡ item_of (drop r.entry.at r.entry.code.now) }
-{
-    item_at(r.code, r.at)
-}
+impl Iterator for Reader<'_> {
+    ghost use Rattle.std.specs.Prelude.{◌-◌};
+    ghost use Rattle.std.specs.Iterator.{at_most};
+    ghost use Rattle.lister.specs.Readers.{HandsOut};
 
-// The reader behind what it handed out.
-pub fn moved_on<'a>(r: Reader<'a>) -> Reader<'a>
-    ensures { (result.code ≡ r.entry.code) × (result.at ≡ behind_of r.entry.code.now r.entry.at) }
-{
-    let at = place_behind(r.code, r.at);
-    Reader { code: r.code, at }
-}
+    type Item = Item;
 
-// What a reader at a position hands out first, for callers with the bytes and a number.
-pub fn read_at(code: &[u8], at: usize) -> Item
-    ensures { result ≡ item_of (drop at code.now) }
-{
-    next(reader_at(code, at))
+    ghost next_gives = { HandsOut };
+
+    ghost remaining = { λ reader. at_most (length reader.code.now - reader.at) };
+
+    fn next(&mut self) -> Option<Item> {
+        let item = read_at(self.code, self.at);
+        match item {
+            Item::Whole { length, .. } => {
+                self.at += length as usize;
+                Some(item)
+            }
+            Item::Byte => {
+                self.at += 1;
+                Some(item)
+            }
+            Item::End => None,
+        }
+    }
 }

@@ -1,5 +1,6 @@
 -- The bytes of an instruction from its places: equal operands stand for equal bytes, and with the pairs they are all its bytes.
 -- Assumes nothing.
+use Rattle.std.proofs.Common.{Some, None}
 use mathlib.Core.Path.{◌≡◌, refl, sym, ap, ◌∙◌}
 use mathlib.Core.Bool.{Bool, true, false, ◌&&◌, false≢true}
 use mathlib.Core.List.{List, [], ◌∷◌, ◌++◌, append_assoc, append-nil}
@@ -19,7 +20,6 @@ use Rattle.instruction_rules.specs.declared.Memory.{Memory}
 use Rattle.instruction_rules.specs.declared.Pair.{Pair}
 use Rattle.instruction_rules.specs.declared.Shape.{Shape}
 use Rattle.instruction_rules.specs.declared.Shape.TheVariants.{Nop, Sintr, Xfer, Wid, Hlt, Lpdi, RegisterImmediate, Register, JumpRegister, RegisterMemory, MemoryRegister, MemoryImmediate, MemoryAlone, JumpMemory, Lpd, MovpLoad, MovpStore, MovMemory, Tsl, Call, JumpMasked, JumpBit, Bit}
-use Rattle.instruction_rules.specs.declared.Second.TheVariants.{Operand, NoSecond}
 use Rattle.instruction_rules.specs.Reading.{second_of}
 use Rattle.instruction_rules.specs.Lengths.{more_by, offset_by, offset_length, data_length, displacement_length, length_of}
 use Rattle.listing_rules.specs.Mnemonics.{is_jump}
@@ -201,7 +201,7 @@ unfoldable pub listed : Slots → List Slot
 listed p = p.first ∷ p.second ∷ p.third ∷ []
 
 -- the places of an instruction without a second pair are all its bytes behind the first
-pub chained : (bytes : List ℕ) (s : Shape) (to : Memory) → to_of bytes s ≡ Operand to → ((m : Memory) → s ≡ MovMemory m → ⊥) → Chain 2 (listed (slots_of s to)) (length_of s + offset_length to)
+pub chained : (bytes : List ℕ) (s : Shape) (to : Memory) → to_of bytes s ≡ Some to → ((m : Memory) → s ≡ MovMemory m → ⊥) → Chain 2 (listed (slots_of s to)) (length_of s + offset_length to)
 unfolding listed Chain slots_of to_of Follows length_of data_length displacement_length offset_length after_offset
 chained bytes Nop to q h = let z : nowhere ≡ to = cc in let e : length_of Nop + offset_length to ≡ 2 = omega (arith, ap (λ (o : Memory). offset_by o.aa) z) in (2, refl, (2, refl, (2, refl, e)))
 chained bytes Sintr to q h = let z : nowhere ≡ to = cc in let e : length_of Sintr + offset_length to ≡ 2 = omega (arith, ap (λ (o : Memory). offset_by o.aa) z) in (2, refl, (2, refl, (2, refl, e)))
@@ -262,10 +262,10 @@ pair-bytes a b c d ha hb hc hd e =
 unfoldable pub second_pair : Bool → Memory → Pair
 second_pair wide m = record { rrr = 0; dd = 0; aa = m.aa; w = pick wide 1 0; opcode = 0x33; mm = m.mm }
 
-no_operand : {A : Type 0} {m : Memory} → NoSecond ≡ Operand m → A
+no_operand : {A : Type 0} {m : Memory} → None ≡ Some m → A
 no_operand h = let z : ◌≡◌ {A = ℕ} 0 1 = cc in absurd (eqb-false 0 1 refl z)
 
-second-of : (p : Pair) (wide : Bool) (m : Memory) → pick (eqb p.opcode 0x33 && columns '000 '00 'AA (pick wide '1 '0) 'MM p) (Operand (memory_of p)) NoSecond ≡ Operand m → p ≡ second_pair wide m
+second-of : (p : Pair) (wide : Bool) (m : Memory) → pick (eqb p.opcode 0x33 && columns '000 '00 'AA (pick wide '1 '0) 'MM p) (Some (memory_of p)) None ≡ Some m → p ≡ second_pair wide m
 unfolding second_pair
 second-of p wide m h = go (eqb p.opcode 0x33) refl (eqb p.rrr 0) refl (meets (pick wide '1 '0) p.w p.w) refl (eqb p.dd 0) refl h
   where
@@ -273,7 +273,7 @@ second-of p wide m h = go (eqb p.opcode 0x33) refl (eqb p.rrr 0) refl (meets (pi
     width true e = eqb-true p.w 1 e
     width false e = eqb-true p.w 0 e
 
-    go : (a : Bool) → eqb p.opcode 0x33 ≡ a → (b : Bool) → eqb p.rrr 0 ≡ b → (c : Bool) → meets (pick wide '1 '0) p.w p.w ≡ c → (d : Bool) → eqb p.dd 0 ≡ d → pick (a && (b && (true && (true && (c && d))))) (Operand (memory_of p)) NoSecond ≡ Operand m → p ≡ second_pair wide m
+    go : (a : Bool) → eqb p.opcode 0x33 ≡ a → (b : Bool) → eqb p.rrr 0 ≡ b → (c : Bool) → meets (pick wide '1 '0) p.w p.w ≡ c → (d : Bool) → eqb p.dd 0 ≡ d → pick (a && (b && (true && (true && (c && d))))) (Some (memory_of p)) None ≡ Some m → p ≡ second_pair wide m
     go true a true b true c true d t =
         let e : memory_of p ≡ m = cc in
         rw (sym e, eqb-true p.opcode 0x33 a, eqb-true p.rrr 0 b, width wide c, eqb-true p.dd 0 d)
@@ -282,19 +282,19 @@ second-of p wide m h = go (eqb p.opcode 0x33) refl (eqb p.rrr 0) refl (meets (pi
     go true a false b y c x d t = no_operand t
     go false a z b y c x d t = no_operand t
 
-pub second-fields : (x y : ℕ) (wide : Bool) (m : Memory) → second_of x y wide ≡ Operand m → pair_of x y ≡ second_pair wide m
+pub second-fields : (x y : ℕ) (wide : Bool) (m : Memory) → second_of x y wide ≡ Some m → pair_of x y ≡ second_pair wide m
 unfolding second_of second_pair
 second-fields x y wide m h = second-of (pair_of x y) wide m h
 
-pub second-memory : (x y : ℕ) (wide : Bool) (m : Memory) → second_of x y wide ≡ Operand m → m ≡ memory_of (pair_of x y)
+pub second-memory : (x y : ℕ) (wide : Bool) (m : Memory) → second_of x y wide ≡ Some m → m ≡ memory_of (pair_of x y)
 unfolding second_of
 second-memory x y wide m h = go (eqb (pair_of x y).opcode 0x33 && columns '000 '00 'AA (pick wide '1 '0) 'MM (pair_of x y)) h
   where
-    go : (b : Bool) → pick b (Operand (memory_of (pair_of x y))) NoSecond ≡ Operand m → m ≡ memory_of (pair_of x y)
+    go : (b : Bool) → pick b (Some (memory_of (pair_of x y))) None ≡ Some m → m ≡ memory_of (pair_of x y)
     go true t = cc
     go false t = no_operand t
 
-pub second-placed : (x y : ℕ) (wide : Bool) (m : Memory) → second_of x y wide ≡ Operand m → (m.mm < 4) × (m.aa < 4)
+pub second-placed : (x y : ℕ) (wide : Bool) (m : Memory) → second_of x y wide ≡ Some m → (m.mm < 4) × (m.aa < 4)
 unfolding second_pair pair_of field_of
 second-placed x y wide m h =
     let e = second-fields x y wide m h in
@@ -332,7 +332,7 @@ pub other-shape : (s : Shape) → is_move s ≡ false → (m : Memory) → s ≡
 unfolding is_move
 other-shape s h m e = false≢true (sym h ∙ ap is_move e)
 
-pub to_none : (s : Shape) → is_move s ≡ false → (bytes : List ℕ) (to : Memory) → to_of bytes s ≡ Operand to → to ≡ nowhere
+pub to_none : (s : Shape) → is_move s ≡ false → (bytes : List ℕ) (to : Memory) → to_of bytes s ≡ Some to → to ≡ nowhere
 unfolding is_move to_of
 to_none Nop h bytes to e = cc
 to_none Sintr h bytes to e = cc

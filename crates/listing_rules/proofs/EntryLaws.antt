@@ -1,5 +1,6 @@
 -- The words and forms are the instructions': from a word and its operands the first pair comes back, row by row of the summary.
 -- Assumes nothing.
+use Rattle.std.proofs.Common.{Ok, Err}
 use mathlib.Core.Path.{◌≡◌, refl, sym, ap, subst, ◌∙◌}
 use mathlib.Core.Bool.{Bool, true, false, ◌&&◌, false≢true}
 use mathlib.Core.List.{List, [], ◌∷◌}
@@ -18,7 +19,7 @@ use Rattle.instruction_rules.specs.declared.Pair.{Pair}
 use Rattle.instruction_rules.specs.declared.Work.{Work}
 use Rattle.instruction_rules.specs.declared.Shape.{Shape}
 use Rattle.instruction_rules.specs.declared.Shape.TheVariants.{RegisterImmediate, Wid}
-use Rattle.instruction_rules.specs.declared.Decoded.TheVariants.{Instruction, ControlUsed}
+use Rattle.instruction_rules.specs.declared.Unread.TheVariants.{ControlUsed}
 use Rattle.instruction_rules.specs.Table.{SummaryRow, table}
 use Rattle.instruction_rules.specs.Reading.{fits, lookup, decode_of}
 use Rattle.listing_rules.specs.Characters.{ascii, same_text}
@@ -349,12 +350,12 @@ module _ (r : SummaryRow) (p : Pair) (f : Fitting r p) (hr : p.rrr < 8) (ha : p.
           let d2 = eqb-false p.dd 2 d in
           at 1 3 k.7 (omega arith) (omega arith)
 
-found : (rs : List SummaryRow) (p : Pair) (s : Shape) (to : Memory) → KnownRows rs → p.rrr < 8 → p.aa < 4 → p.mm < 4 → p.w < 2 → p.dd < 4 → Placed to → is_listed s ≡ true → lookup rs p ≡ Instruction s → Known p s to
+found : (rs : List SummaryRow) (p : Pair) (s : Shape) (to : Memory) → KnownRows rs → p.rrr < 8 → p.aa < 4 → p.mm < 4 → p.w < 2 → p.dd < 4 → Placed to → is_listed s ≡ true → lookup rs p ≡ Ok s → Known p s to
 unfolding lookup KnownRows
 found [] p s to k hr ha hm hw hd ht l e = let z : ◌≡◌ {A = ℕ} 0 1 = cc in absurd (eqb-false 0 1 refl z)
 found (r ∷ rs) p s to k hr ha hm hw hd ht l e = go (fits r p) refl (r.control && is_control p) (found rs p s to k.1 hr ha hm hw hd ht l) e
   where
-    go : (f : Bool) → fits r p ≡ f → (u : Bool) → (lookup rs p ≡ Instruction s → Known p s to) → pick f (pick u ControlUsed (Instruction (r.shape p))) (lookup rs p) ≡ Instruction s → Known p s to
+    go : (f : Bool) → fits r p ≡ f → (u : Bool) → (lookup rs p ≡ Ok s → Known p s to) → pick f (pick u (Err ControlUsed) (Ok (r.shape p))) (lookup rs p) ≡ Ok s → Known p s to
     go true g true later t = let z : ◌≡◌ {A = ℕ} 0 1 = cc in absurd (eqb-false 0 1 refl z)
     go true g false later t =
         let same : r.shape p ≡ s = cc in
@@ -362,6 +363,6 @@ found (r ∷ rs) p s to k hr ha hm hw hd ht l e = go (fits r p) refl (r.control 
     go false g u later t = later t
 
 -- an instruction that has a line is known by its word and its operands
-pub known : (first second : ℕ) (s : Shape) (to : Memory) → decode_of first second ≡ Instruction s → Placed to → is_listed s ≡ true → Known (pair_of first second) s to
+pub known : (first second : ℕ) (s : Shape) (to : Memory) → decode_of first second ≡ Ok s → Placed to → is_listed s ≡ true → Known (pair_of first second) s to
 unfolding decode_of pair_of field_of
 known first second s to e ht l = found table (pair_of first second) s to known-rows (omega arith) (omega arith) (omega arith) (omega arith) (omega arith) ht l e

@@ -1,5 +1,6 @@
 -- When a line is a DB line, and when the reader finds no instruction.
 -- Assumes nothing.
+use Rattle.std.proofs.Common.{Ok, Err, Option, Some, None}
 use mathlib.Core.Path.{◌≡◌, refl, sym, ap, ◌∙◌}
 use mathlib.Core.Bool.{Bool, true, false, not, false≢true}
 use mathlib.Core.List.{List, [], ◌∷◌, ◌++◌, append_assoc}
@@ -13,11 +14,9 @@ use Rattle.ground_rules.specs.Choice.{pick}
 use Rattle.instruction_rules.specs.Pairs.{pair_of}
 use Rattle.instruction_rules.specs.declared.Memory.{Memory}
 use Rattle.instruction_rules.specs.declared.Shape.{Shape}
-use Rattle.instruction_rules.specs.declared.Decoded.{Decoded}
-use Rattle.instruction_rules.specs.declared.Decoded.TheVariants.{Instruction, NoInstruction, ControlUsed}
-use Rattle.instruction_rules.specs.declared.Second.{Second}
-use Rattle.instruction_rules.specs.declared.Second.TheVariants.{Operand, NoSecond}
-use Rattle.instruction_rules.specs.Reading.{decode_of, number_of}
+use Rattle.instruction_rules.specs.Decoded.{Decoded}
+use Rattle.instruction_rules.specs.declared.Unread.TheVariants.{NoInstruction, ControlUsed}
+use Rattle.instruction_rules.specs.Reading.{decode_of, decoded_number}
 use Rattle.instruction_rules.specs.Lengths.{offset_length, length_of}
 use Rattle.listing_rules.specs.Characters.{ascii}
 use Rattle.listing_rules.specs.Mnemonics.{is_listed}
@@ -87,10 +86,10 @@ data-exactly address x h = word-at address x (item_of x) refl h
 -- why no instruction starts at a byte: it is the last; 3 or 4 is given; the code is cut off; the second pair is none; the code is cut off behind that
 pub data Unread (x : List ℕ) : Type 0 where
   last : length x ≡ 1 → Unread x
-  refused : 1 < length x → (number_of (decode_of (get_or x 0 0) (get_or x 1 0)) ≡ 0 → ⊥) → Unread x
-  short : {s : Shape} → 1 < length x → decode_of (get_or x 0 0) (get_or x 1 0) ≡ Instruction s → length x < length_of s → Unread x
-  unpaired : {s : Shape} → 1 < length x → decode_of (get_or x 0 0) (get_or x 1 0) ≡ Instruction s → length_of s ≤ length x → to_of x s ≡ NoSecond → Unread x
-  shorter : {s : Shape} {to : Memory} → 1 < length x → decode_of (get_or x 0 0) (get_or x 1 0) ≡ Instruction s → length_of s ≤ length x → to_of x s ≡ Operand to → length x < length_of s + offset_length to → Unread x
+  refused : 1 < length x → (decoded_number (decode_of (get_or x 0 0) (get_or x 1 0)) ≡ 0 → ⊥) → Unread x
+  short : {s : Shape} → 1 < length x → decode_of (get_or x 0 0) (get_or x 1 0) ≡ Ok s → length x < length_of s → Unread x
+  unpaired : {s : Shape} → 1 < length x → decode_of (get_or x 0 0) (get_or x 1 0) ≡ Ok s → length_of s ≤ length x → to_of x s ≡ None → Unread x
+  shorter : {s : Shape} {to : Memory} → 1 < length x → decode_of (get_or x 0 0) (get_or x 1 0) ≡ Ok s → length_of s ≤ length x → to_of x s ≡ Some to → length x < length_of s + offset_length to → Unread x
 
 whole-byte : {A : Type 0} {s : Shape} {to : Memory} {n : ℕ} → Whole s to n ≡ Byte → A
 whole-byte h = let z : ◌≡◌ {A = ℕ} 0 1 = cc in absurd (eqb-false 0 1 refl z)
@@ -98,10 +97,10 @@ whole-byte h = let z : ◌≡◌ {A = ℕ} 0 1 = cc in absurd (eqb-false 0 1 ref
 end-byte : {A : Type 0} → End ≡ Byte → A
 end-byte h = let z : ◌≡◌ {A = ℕ} 0 1 = cc in absurd (eqb-false 0 1 refl z)
 
-unread-second : (x : List ℕ) (s : Shape) (t : Second) → 1 < length x → decode_of (get_or x 0 0) (get_or x 1 0) ≡ Instruction s → length_of s ≤ length x → to_of x s ≡ t → whole_of x s t ≡ Byte → Unread x
+unread-second : (x : List ℕ) (s : Shape) (t : Option Memory) → 1 < length x → decode_of (get_or x 0 0) (get_or x 1 0) ≡ Ok s → length_of s ≤ length x → to_of x s ≡ t → whole_of x s t ≡ Byte → Unread x
 unfolding whole_of
-unread-second x s NoSecond h d l e b = unpaired h d l e
-unread-second x s (Operand m) h d l e b = go (ltb (length x) (length_of s + offset_length m)) refl b
+unread-second x s None h d l e b = unpaired h d l e
+unread-second x s (Some m) h d l e b = go (ltb (length x) (length_of s + offset_length m)) refl b
   where
     go : (t : Bool) → ltb (length x) (length_of s + offset_length m) ≡ t → pick t Byte (Whole s m (length_of s + offset_length m)) ≡ Byte → Unread x
     go true f c = shorter h d l e (ltb-true (length x) (length_of s + offset_length m) f)
@@ -109,9 +108,9 @@ unread-second x s (Operand m) h d l e b = go (ltb (length x) (length_of s + offs
 
 unread-read : (x : List ℕ) (d : Decoded) → 1 < length x → decode_of (get_or x 0 0) (get_or x 1 0) ≡ d → read_of x d ≡ Byte → Unread x
 unfolding read_of
-unread-read x NoInstruction h e b = refused h (λ z. eqb-false 3 0 refl (sym (ap number_of e) ∙ z))
-unread-read x ControlUsed h e b = refused h (λ z. eqb-false 4 0 refl (sym (ap number_of e) ∙ z))
-unread-read x (Instruction s) h e b = go (ltb (length x) (length_of s)) refl b
+unread-read x (Err NoInstruction) h e b = refused h (λ z. eqb-false 3 0 refl (sym (ap decoded_number e) ∙ z))
+unread-read x (Err ControlUsed) h e b = refused h (λ z. eqb-false 4 0 refl (sym (ap decoded_number e) ∙ z))
+unread-read x (Ok s) h e b = go (ltb (length x) (length_of s)) refl b
   where
     go : (t : Bool) → ltb (length x) (length_of s) ≡ t → pick t Byte (whole_of x s (to_of x s)) ≡ Byte → Unread x
     go true f c = short h e (ltb-true (length x) (length_of s) f)
@@ -129,11 +128,11 @@ unread-item x h = go (eqb (length x) 0) refl (eqb (length x) 1) refl h
         let n1 = eqb-false (length x) 1 f in
         unread-read x (decode_of (get_or x 0 0) (get_or x 1 0)) (omega arith) refl t
 
-read-refused : (x : List ℕ) (d : Decoded) → (number_of d ≡ 0 → ⊥) → read_of x d ≡ Byte
+read-refused : (x : List ℕ) (d : Decoded) → (decoded_number d ≡ 0 → ⊥) → read_of x d ≡ Byte
 unfolding read_of
-read-refused x (Instruction s) h = absurd (h refl)
-read-refused x NoInstruction h = refl
-read-refused x ControlUsed h = refl
+read-refused x (Ok s) h = absurd (h refl)
+read-refused x (Err NoInstruction) h = refl
+read-refused x (Err ControlUsed) h = refl
 
 item-last : (x : List ℕ) → length x ≡ 1 → item_of x ≡ Byte
 unfolding item_of

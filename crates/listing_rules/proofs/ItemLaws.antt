@@ -1,5 +1,6 @@
 -- What some bytes begin with, test by test.
 -- Assumes nothing.
+use Rattle.std.proofs.Common.{Ok, Err, Option, Some, None}
 use mathlib.Core.Path.{◌≡◌, refl, sym, ap, ◌∙◌}
 use mathlib.Core.List.{List, [], ◌∷◌}
 use Prim.Native.Nat.{ℕ, zero, suc, ◌+◌, ◌≤◌, ◌<◌}
@@ -12,12 +13,9 @@ use types.Run.{OneOf, miss}
 use Rattle.instruction_rules.specs.declared.Memory.{Memory}
 use Rattle.instruction_rules.specs.declared.Shape.{Shape}
 use Rattle.instruction_rules.specs.declared.Shape.TheVariants.{Nop, Sintr, Xfer, Wid, Hlt, Lpdi, RegisterImmediate, Register, JumpRegister, RegisterMemory, MemoryRegister, MemoryImmediate, MemoryAlone, JumpMemory, Lpd, MovpLoad, MovpStore, MovMemory, Tsl, Call, JumpMasked, JumpBit, Bit}
-use Rattle.instruction_rules.specs.declared.Decoded.{Decoded}
-use Rattle.instruction_rules.specs.declared.Decoded.TheVariants.{Instruction, NoInstruction, ControlUsed}
-use Rattle.instruction_rules.specs.declared.Second.{Second}
-use Rattle.instruction_rules.specs.declared.Second.TheVariants.{Operand, NoSecond}
+use Rattle.instruction_rules.specs.Decoded.{Decoded}
+use Rattle.instruction_rules.specs.declared.Unread.TheVariants.{NoInstruction, ControlUsed}
 use Rattle.instruction_rules.specs.contracts.Shape as Shapes
-use Rattle.instruction_rules.specs.contracts.Decoded as Decodeds
 use Rattle.instruction_rules.specs.Reading.{decode_of, second_of}
 use Rattle.instruction_rules.specs.declared.Looked.{Looked}
 use Rattle.instruction_rules.specs.Lengths.{offset_length, data_length, displacement_length, length_of, pair_length}
@@ -37,7 +35,7 @@ pub looked-what : {l : Looked} {d : Decoded} {n : ℕ} → l ≡ record { decode
 looked-what e = ap (λ (l : Looked). l.decoded) e
 
 -- and has the instruction's length
-pub looked-length : (first second : ℕ) (l : Looked) (s : Shape) → l ≡ record { decoded = decode_of first second; length = pair_length (pair_of first second) } → l.decoded ≡ Instruction s → l.length ≡ length_of s
+pub looked-length : (first second : ℕ) (l : Looked) (s : Shape) → l ≡ record { decoded = decode_of first second; length = pair_length (pair_of first second) } → l.decoded ≡ Ok s → l.length ≡ length_of s
 looked-length first second l s e d = ap (λ (l : Looked). l.length) e ∙ sym (pair-rule first second s (sym (looked-what e) ∙ d))
 
 -- MOV M,M has two pairs
@@ -58,7 +56,7 @@ pub offset-small : (k : ℕ) (m : Memory) → k ≡ offset_length m → k ≤ 1
 offset-small k m e = omega (arith, e, offset-short m)
 
 -- the pair behind the first operand of MOV M,M is its second one
-pub second-read : (bytes : List ℕ) (m : Memory) (k : ℕ) (t : Second) → k ≡ offset_length m → t ≡ second_of (get_or bytes (2 + k) 0) (get_or bytes (3 + k) 0) m.wide → t ≡ to_of bytes (MovMemory m)
+pub second-read : (bytes : List ℕ) (m : Memory) (k : ℕ) (t : Option Memory) → k ≡ offset_length m → t ≡ second_of (get_or bytes (2 + k) 0) (get_or bytes (3 + k) 0) m.wide → t ≡ to_of bytes (MovMemory m)
 unfolding to_of
 second-read bytes m k t e h = h ∙ rw e
 
@@ -67,7 +65,7 @@ abbrev others : List ℕ
 others = 0 ∷ 1 ∷ 2 ∷ 3 ∷ 4 ∷ 5 ∷ 6 ∷ 7 ∷ 8 ∷ 9 ∷ 10 ∷ 11 ∷ 12 ∷ 13 ∷ 14 ∷ 15 ∷ 16 ∷ 18 ∷ 19 ∷ 20 ∷ 21 ∷ 22 ∷ []
 
 -- an instruction other than MOV M,M has no second pair
-pub no_second : (bytes : List ℕ) (s : Shape) → OneOf others (variant Shapes.the_type s) → Operand nowhere ≡ to_of bytes s
+pub no_second : (bytes : List ℕ) (s : Shape) → OneOf others (variant Shapes.the_type s) → Some nowhere ≡ to_of bytes s
 unfolding to_of
 no_second bytes Nop h = refl
 no_second bytes Sintr h = refl
@@ -93,21 +91,21 @@ no_second bytes (JumpMasked a b c) h = refl
 no_second bytes (JumpBit a b c d) h = refl
 no_second bytes (Bit a b c) h = refl
 
-read_none : (bytes : List ℕ) (d : Decoded) → OneOf (1 ∷ 2 ∷ []) (variant Decodeds.the_type d) → read_of bytes d ≡ Byte
+read_none : (bytes : List ℕ) (d : Decoded) → ((s : Shape) → d ≡ Ok s → ⊥) → read_of bytes d ≡ Byte
 unfolding read_of
-read_none bytes (Instruction s) h = absurd (miss (1 ∷ 2 ∷ []) 0 tt h)
-read_none bytes NoInstruction h = refl
-read_none bytes ControlUsed h = refl
+read_none bytes (Ok s) none = absurd (none s refl)
+read_none bytes (Err NoInstruction) none = refl
+read_none bytes (Err ControlUsed) none = refl
 
-module _ (bytes : List ℕ) (s : Shape) (t : Second) (second : t ≡ to_of bytes s) where
+module _ (bytes : List ℕ) (s : Shape) (t : Option Memory) (second : t ≡ to_of bytes s) where
   -- the second pair is none
-  pub whole-none : t ≡ NoSecond → Byte ≡ whole_of bytes s (to_of bytes s)
+  pub whole-none : t ≡ None → Byte ≡ whole_of bytes s (to_of bytes s)
   unfolding whole_of
   whole-none h =
       let e : whole_of bytes s (to_of bytes s) ≡ Byte = ap (whole_of bytes s) (sym second ∙ h) in
       sym e
 
-  module _ (n : ℕ) (size : n ≡ length_of s) (m : Memory) (to : t ≡ Operand m) (k : ℕ) (offset : k ≡ offset_length m) where
+  module _ (n : ℕ) (size : n ≡ length_of s) (m : Memory) (to : t ≡ Some m) (k : ℕ) (offset : k ≡ offset_length m) where
     -- its offset byte is not there
     pub whole-cut : length bytes < n + k → Byte ≡ whole_of bytes s (to_of bytes s)
     unfolding whole_of
@@ -128,7 +126,7 @@ pub whole-single : (bytes : List ℕ) (s : Shape) (n : ℕ) → n ≡ length_of 
 unfolding offset_length
 whole-single bytes s n size h there =
     let e : n ≡ n + 0 = omega arith in
-    ap (Whole s nowhere) e ∙ whole-there bytes s (Operand nowhere) (no_second bytes s h) n size nowhere refl 0 refl (omega (arith, there))
+    ap (Whole s nowhere) e ∙ whole-there bytes s (Some nowhere) (no_second bytes s h) n size nowhere refl 0 refl (omega (arith, there))
 
 module _ (bytes : List ℕ) (some : length bytes ≡ 0 → ⊥) (more : length bytes ≡ 1 → ⊥) where
   pub item-read : (d : Decoded) → d ≡ decode_of (get_or bytes 0 0) (get_or bytes 1 0) → read_of bytes d ≡ item_of bytes
@@ -137,10 +135,10 @@ module _ (bytes : List ℕ) (some : length bytes ≡ 0 → ⊥) (more : length b
 
   module _ (d : Decoded) (read : d ≡ decode_of (get_or bytes 0 0) (get_or bytes 1 0)) where
     -- the pair is no instruction
-    pub item-none : OneOf (1 ∷ 2 ∷ []) (variant Decodeds.the_type d) → Byte ≡ item_of bytes
+    pub item-none : ((s : Shape) → d ≡ Ok s → ⊥) → Byte ≡ item_of bytes
     item-none h = sym (read_none bytes d h) ∙ item-read d read
 
-    module _ (s : Shape) (shape : d ≡ Instruction s) (n : ℕ) (size : n ≡ length_of s) where
+    module _ (s : Shape) (shape : d ≡ Ok s) (n : ℕ) (size : n ≡ length_of s) where
       -- its bytes are not all there
       pub item-short : length bytes < n → Byte ≡ item_of bytes
       unfolding read_of

@@ -1,5 +1,6 @@
 -- What a whole instruction is made of, and how many bytes a line lists.
 -- Assumes nothing.
+use Rattle.std.proofs.Common.{Ok, Err, Option, Some, None}
 use mathlib.Core.Path.{◌≡◌, refl, sym, ap, ◌∙◌}
 use mathlib.Core.Bool.{Bool, true, false, false≢true}
 use mathlib.Core.List.{List}
@@ -12,10 +13,8 @@ use Rattle.ground_rules.specs.Choice.{pick}
 use Rattle.instruction_rules.specs.declared.Memory.{Memory}
 use Rattle.instruction_rules.specs.declared.Shape.{Shape}
 use Rattle.instruction_rules.specs.declared.Shape.TheVariants.{Nop, Sintr, Xfer, Wid, Hlt, Lpdi, RegisterImmediate, Register, JumpRegister, RegisterMemory, MemoryRegister, MemoryImmediate, MemoryAlone, JumpMemory, Lpd, MovpLoad, MovpStore, MovMemory, Tsl, Call, JumpMasked, JumpBit, Bit}
-use Rattle.instruction_rules.specs.declared.Decoded.{Decoded}
-use Rattle.instruction_rules.specs.declared.Decoded.TheVariants.{Instruction, NoInstruction, ControlUsed}
-use Rattle.instruction_rules.specs.declared.Second.{Second}
-use Rattle.instruction_rules.specs.declared.Second.TheVariants.{Operand, NoSecond}
+use Rattle.instruction_rules.specs.Decoded.{Decoded}
+use Rattle.instruction_rules.specs.declared.Unread.TheVariants.{NoInstruction, ControlUsed}
 use Rattle.instruction_rules.specs.Reading.{decode_of}
 use Rattle.instruction_rules.specs.Lengths.{offset_by, offset_length, data_length, displacement_length, length_of}
 use Rattle.instruction_rules.proofs.LengthLaws.{bounded, more-small, offset-small}
@@ -26,8 +25,8 @@ use Rattle.listing_rules.specs.Items.{nowhere, to_of, whole_of, read_of, item_of
 
 -- a whole instruction: the shape that its first pair decodes to, the operand of its second pair, its bytes
 pub record WholeAt (bytes : List ℕ) (s : Shape) (to : Memory) (n : ℕ) : Type 0 where
-  pub pair : decode_of (get_or bytes 0 0) (get_or bytes 1 0) ≡ Instruction s
-  pub second : to_of bytes s ≡ Operand to
+  pub pair : decode_of (get_or bytes 0 0) (get_or bytes 1 0) ≡ Ok s
+  pub second : to_of bytes s ≡ Some to
   pub size : n ≡ length_of s + offset_length to
   pub there : n ≤ length bytes
 
@@ -38,10 +37,10 @@ byte-whole : {A : Type 0} {s : Shape} {to : Memory} {n : ℕ} → Byte ≡ Whole
 byte-whole h = let z : ◌≡◌ {A = ℕ} 0 1 = cc in absurd (eqb-false 0 1 refl z)
 
 module _ (bytes : List ℕ) (s : Shape) (to : Memory) (n : ℕ) where
-  whole-second : (r : Shape) (t : Second) → decode_of (get_or bytes 0 0) (get_or bytes 1 0) ≡ Instruction r → to_of bytes r ≡ t → whole_of bytes r t ≡ Whole s to n → WholeAt bytes s to n
+  whole-second : (r : Shape) (t : Option Memory) → decode_of (get_or bytes 0 0) (get_or bytes 1 0) ≡ Ok r → to_of bytes r ≡ t → whole_of bytes r t ≡ Whole s to n → WholeAt bytes s to n
   unfolding whole_of
-  whole-second r NoSecond p q h = byte-whole h
-  whole-second r (Operand m) p q h = go (ltb (length bytes) (length_of r + offset_length m)) refl h
+  whole-second r None p q h = byte-whole h
+  whole-second r (Some m) p q h = go (ltb (length bytes) (length_of r + offset_length m)) refl h
     where
       go : (b : Bool) → ltb (length bytes) (length_of r + offset_length m) ≡ b → pick b Byte (Whole r m (length_of r + offset_length m)) ≡ Whole s to n → WholeAt bytes s to n
       go true e t = byte-whole t
@@ -58,9 +57,9 @@ module _ (bytes : List ℕ) (s : Shape) (to : Memory) (n : ℕ) where
 
   whole-read : (d : Decoded) → decode_of (get_or bytes 0 0) (get_or bytes 1 0) ≡ d → read_of bytes d ≡ Whole s to n → WholeAt bytes s to n
   unfolding read_of
-  whole-read NoInstruction p h = byte-whole h
-  whole-read ControlUsed p h = byte-whole h
-  whole-read (Instruction r) p h = go (ltb (length bytes) (length_of r)) h
+  whole-read (Err NoInstruction) p h = byte-whole h
+  whole-read (Err ControlUsed) p h = byte-whole h
+  whole-read (Ok r) p h = go (ltb (length bytes) (length_of r)) h
     where
       go : (b : Bool) → pick b Byte (whole_of bytes r (to_of bytes r)) ≡ Whole s to n → WholeAt bytes s to n
       go true t = byte-whole t
@@ -76,10 +75,10 @@ module _ (bytes : List ℕ) (s : Shape) (to : Memory) (n : ℕ) where
       go false true t = byte-whole t
       go false false t = whole-read (decode_of (get_or bytes 0 0) (get_or bytes 1 0)) refl t
 
-wholes : (bytes : List ℕ) (t : Second) (r : Shape) → whole_of bytes r t ≡ End → ⊥
+wholes : (bytes : List ℕ) (t : Option Memory) (r : Shape) → whole_of bytes r t ≡ End → ⊥
 unfolding whole_of
-wholes bytes NoSecond r e = let z : ◌≡◌ {A = ℕ} 0 1 = cc in eqb-false 0 1 refl z
-wholes bytes (Operand m) r e = go (ltb (length bytes) (length_of r + offset_length m)) e
+wholes bytes None r e = let z : ◌≡◌ {A = ℕ} 0 1 = cc in eqb-false 0 1 refl z
+wholes bytes (Some m) r e = go (ltb (length bytes) (length_of r + offset_length m)) e
   where
     go : (b : Bool) → pick b Byte (Whole r m (length_of r + offset_length m)) ≡ End → ⊥
     go true t = let z : ◌≡◌ {A = ℕ} 0 1 = cc in eqb-false 0 1 refl z
@@ -87,9 +86,9 @@ wholes bytes (Operand m) r e = go (ltb (length bytes) (length_of r + offset_leng
 
 reads : (bytes : List ℕ) (d : Decoded) → read_of bytes d ≡ End → ⊥
 unfolding read_of
-reads bytes NoInstruction e = let z : ◌≡◌ {A = ℕ} 0 1 = cc in eqb-false 0 1 refl z
-reads bytes ControlUsed e = let z : ◌≡◌ {A = ℕ} 0 1 = cc in eqb-false 0 1 refl z
-reads bytes (Instruction r) e = go (ltb (length bytes) (length_of r)) e
+reads bytes (Err NoInstruction) e = let z : ◌≡◌ {A = ℕ} 0 1 = cc in eqb-false 0 1 refl z
+reads bytes (Err ControlUsed) e = let z : ◌≡◌ {A = ℕ} 0 1 = cc in eqb-false 0 1 refl z
+reads bytes (Ok r) e = go (ltb (length bytes) (length_of r)) e
   where
     go : (b : Bool) → pick b Byte (whole_of bytes r (to_of bytes r)) ≡ End → ⊥
     go true t = let z : ◌≡◌ {A = ℕ} 0 1 = cc in eqb-false 0 1 refl z
@@ -123,7 +122,7 @@ count-there bytes some = go (item_of bytes) refl
     go End e = omega arith
 
 -- the instruction without a line of its own has at most five bytes
-pub call-size : (bytes : List ℕ) (s : Shape) (to : Memory) → is_listed s ≡ false → to_of bytes s ≡ Operand to → length_of s + offset_length to ≤ 5
+pub call-size : (bytes : List ℕ) (s : Shape) (to : Memory) → is_listed s ≡ false → to_of bytes s ≡ Some to → length_of s + offset_length to ≤ 5
 unfolding to_of length_of data_length displacement_length offset_length
 call-size bytes Nop to h e = absurd (false≢true (sym h))
 call-size bytes Sintr to h e = absurd (false≢true (sym h))

@@ -1,5 +1,6 @@
 -- What a listing promises: every byte listed once, lines that end and are short, a stop from which it goes on.
 -- Assumes nothing.
+use Rattle.std.proofs.Common.{Ok}
 use mathlib.Core.Path.{◌≡◌, refl, sym, ap, ◌∙◌}
 use mathlib.Core.Bool.{Bool, true, false}
 use mathlib.Core.List.{List, [], ◌∷◌, ◌++◌, append_assoc}
@@ -12,7 +13,6 @@ use borrow.Author.Tests.{leb-true, leb-false}
 use Rattle.ground_rules.specs.Choice.{pick}
 use Rattle.instruction_rules.specs.declared.Memory.{Memory}
 use Rattle.instruction_rules.specs.declared.Shape.{Shape}
-use Rattle.instruction_rules.specs.declared.Decoded.TheVariants.{Instruction}
 use Rattle.instruction_rules.specs.Reading.{decode_of}
 use Rattle.listing_rules.specs.Characters.{ascii}
 use Rattle.listing_rules.specs.Mnemonics.{is_listed, mnemonic_of}
@@ -95,7 +95,7 @@ unfolding lines_of
 all-proper first bytes = proper-by (length bytes) first bytes
 
 -- the shape that is listed is the one that the first pair decodes to, and its bytes are all there
-pub listed-shape : (bytes : List ℕ) (s : Shape) (to : Memory) (n : ℕ) → item_of bytes ≡ Whole s to n → (decode_of (get_or bytes 0 0) (get_or bytes 1 0) ≡ Instruction s) × (n ≤ length bytes)
+pub listed-shape : (bytes : List ℕ) (s : Shape) (to : Memory) (n : ℕ) → item_of bytes ≡ Whole s to n → (decode_of (get_or bytes 0 0) (get_or bytes 1 0) ≡ Ok s) × (n ≤ length bytes)
 listed-shape bytes s to n e = let w = whole-at bytes s to n e in (w.pair, w.there)
 
 -- the characters and the bytes of lines one after the other

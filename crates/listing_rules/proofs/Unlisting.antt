@@ -1,5 +1,6 @@
 -- A listing gives its bytes back: two parts with the same listing from the same address are the same.
 -- Assumes nothing.
+use Rattle.std.proofs.Common.{Ok, Some}
 use mathlib.Core.Path.{◌≡◌, refl, sym, ap, subst, ◌∙◌}
 use mathlib.Core.Bool.{Bool, true, false, not, ◌&&◌, ◌||◌, false≢true}
 use mathlib.Core.List.{List, [], ◌∷◌, ◌++◌, append_assoc, append-nil}
@@ -14,8 +15,6 @@ use Rattle.instruction_rules.specs.declared.Memory.{Memory}
 use Rattle.instruction_rules.specs.declared.Pair.{Pair}
 use Rattle.instruction_rules.specs.declared.Shape.{Shape}
 use Rattle.instruction_rules.specs.declared.Shape.TheVariants.{MovMemory}
-use Rattle.instruction_rules.specs.declared.Decoded.TheVariants.{Instruction}
-use Rattle.instruction_rules.specs.declared.Second.TheVariants.{Operand}
 use Rattle.instruction_rules.specs.Lengths.{offset_length, length_of}
 use Rattle.instruction_rules.proofs.LengthLaws.{bounded}
 use Rattle.listing_rules.specs.Characters.{ascii, same_text}
@@ -186,12 +185,12 @@ mov-covered bytes m to n e h =
     ap (λ (l : List ℕ). (l ++ (get_or bytes (2 + o) 0 ∷ get_or bytes (3 + o) 0 ∷ [])) ++ slot_bytes bytes (Place to (2 + o + 2))) (covered bytes 2 (Place m 2) (2 + o) (refl, refl) (omega arith))
     ∙ rw third (ap (λ (l : List ℕ). l ++ slot_bytes bytes (Place to (2 + o + 2))) (two-more bytes (2 + o) (omega arith)) ∙ covered bytes (2 + o + 2) (Place to (2 + o + 2)) n (refl, omega arith) h)
 
-placed_by : (bytes : List ℕ) (s : Shape) (to : Memory) → Pairs s → to_of bytes s ≡ Operand to → Placed to
+placed_by : (bytes : List ℕ) (s : Shape) (to : Memory) → Pairs s → to_of bytes s ≡ Some to → Placed to
 unfolding to_of
 placed_by bytes s to (one other) e = rw (to_none s other bytes to e) (omega arith, omega arith)
 placed_by bytes s to (two m) e = second-placed (get_or bytes (2 + offset_length m) 0) (get_or bytes (3 + offset_length m) 0) m.wide to e
 
-pub placed-to : (bytes : List ℕ) (s : Shape) (to : Memory) → to_of bytes s ≡ Operand to → Placed to
+pub placed-to : (bytes : List ℕ) (s : Shape) (to : Memory) → to_of bytes s ≡ Some to → Placed to
 placed-to bytes s to e = placed_by bytes s to (pairs s) e
 
 module _ (address : ℕ) (x y : List ℕ) (hx : Bytes x) (hy : Bytes y) where
@@ -226,7 +225,7 @@ module _ (address : ℕ) (x y : List ℕ) (hx : Bytes x) (hy : Bytes y) where
       let equal : present (fill x (address + n) places) ≡ present (fill y (address + n) places) = rw (sym same-to, sym same-n) at ops in
       let middle = same-slots x y (address + n) places hx hy equal in
       let cx = all-covered x 2 n places (rw (sym wx.size) at (chained x s to wx.second (other-shape s other))) wx.there in
-      let to-y : to_of y s ≡ Operand to = wy.second ∙ ap Operand (sym same-to) in
+      let to-y : to_of y s ≡ Some to = wy.second ∙ ap Some (sym same-to) in
       let cy = all-covered y 2 n places (rw (sym wx.size) at (chained y s to to-y (other-shape s other))) (omega (arith, wy.there, same-n)) in
       let f : take 2 x ≡ take 2 y = first-pair x lx ∙ rw (e0, e1) (sym (first-pair y ly)) in
       sym cx ∙ ap (λ (l : List ℕ). l ++ spread x places) f ∙ ap (λ (l : List ℕ). take 2 y ++ l) middle ∙ cy ∙ ap (λ (k : ℕ). take k y) same-n
@@ -244,7 +243,7 @@ module _ (address : ℕ) (x y : List ℕ) (hx : Bytes x) (hy : Bytes y) where
       let same = spoken-same (instruction_line x (address + n) s to) (instruction_line y (address + n2) s2 to2) r r2 (spoken-line x (address + n) (pair_of (get_or x 0 0) (get_or x 1 0)) s to kx hx) (spoken-line y (address + n2) (pair_of (get_or y 0 0) (get_or y 1 0)) s2 to2 ky hy) e in
       let pp : pair_of (get_or x 0 0) (get_or x 1 0) ≡ pair_of (get_or y 0 0) (get_or y 1 0) = sym (kx.pair x (address + n)) ∙ rw (same.0, same.1) (ky.pair y (address + n2)) in
       let q = pair-bytes (get_or x 0 0) (get_or x 1 0) (get_or y 0 0) (get_or y 1 0) (hx 0) (hx 1) (hy 0) (hy 1) pp in
-      let d : Instruction s ≡ Instruction s2 = sym wx.pair ∙ rw (q.0, q.1) wy.pair in
+      let d : Ok s ≡ Ok s2 = sym wx.pair ∙ rw (q.0, q.1) wy.pair in
       let es : s ≡ s2 = cc in
       let wy2 : WholeAt y s to2 n2 = subst (λ (z : Shape). WholeAt y z to2 n2) (sym es) wy in
       let ops : present (operands_of s to x (address + n)) ≡ present (operands_of s to2 y (address + n2)) = same.1 ∙ ap (λ (z : Shape). present (operands_of z to2 y (address + n2))) (sym es) in

@@ -1,7 +1,7 @@
-// CC taken apart into its fields and put together of them, and whether two sets of fields are the same.
+// CC taken apart into its fields and put together of them.
 ghost use Rattle.std.specs.Prelude.{◌≡◌, ◌≤◌};
 ghost use Rattle.ground_rules.specs.Cc as Cc;
-ghost use Rattle.ground_rules.specs.Cc.{bit_worth, same_flag, same_fields};
+ghost use Rattle.ground_rules.specs.Cc.{bit_worth};
 
 use ground_rules::Fields;
 
@@ -25,6 +25,7 @@ pub fn split(cc: u16) -> Fields
 }
 
 // What a flag adds to a CC, at most its bit.
+#[tactic(auto, unfolding(ground_rules::specs::Cc::bit_worth))]
 fn bit_worth(on: bool, worth: u16) -> u16
     ensures is { result ≡ bit_worth on worth }
     ensures most { result ≤ worth }
@@ -33,6 +34,7 @@ fn bit_worth(on: bool, worth: u16) -> u16
 }
 
 // The CC that has the fields, with bit 9 at 0.
+#[tactic(auto, unfolding(ground_rules::specs::Cc::joined))]
 pub fn joined(f: Fields) -> u16
     ensures { result ≡ Cc.joined f }
 {
@@ -53,27 +55,4 @@ pub fn without_lock(cc: u16) -> u16
     ensures { result ≡ Cc.without_lock cc }
 {
     cc & 0xFDFF
-}
-
-// Whether two flags are the same.
-fn same_flag(a: bool, b: bool) -> bool
-    ensures { result ≡ same_flag a b }
-{
-    if a { b } else { !b }
-}
-
-// Whether two sets of fields are the same, one by one.
-pub fn same(f: Fields, g: Fields) -> bool
-    ensures { result ≡ same_fields f g }
-{
-    same_flag(f.destinationMoves, g.destinationMoves)
-        & same_flag(f.sourceMoves, g.sourceMoves)
-        & same_flag(f.translates, g.translates)
-        & (f.synchronised == g.synchronised)
-        & same_flag(f.sourceIsGB, g.sourceIsGB)
-        & same_flag(f.chained, g.chained)
-        & same_flag(f.singleTransfer, g.singleTransfer)
-        & (f.externalEnd == g.externalEnd)
-        & (f.countEnd == g.countEnd)
-        & (f.matchEnd == g.matchEnd)
 }

@@ -2,29 +2,30 @@
 ghost use Rattle.std.specs.Prelude.{◌≡◌};
 ghost use Rattle.ground_rules.specs.Holdings.{held_number, held_from, is_held_number};
 
-use ground_rules::Held;
-
 // The number that stands for what is held.
-pub fn number(held: Held) -> u16
+#[tactic(auto, unfolding(ground_rules::specs::Holdings::held_number))]
+pub fn number(held: Option<u8>) -> u16
     ensures { result ≡ held_number held }
 {
     match held {
-        Held::NoByte => 0,
-        Held::Byte(byte) => 256 + byte as u16,
+        None => 0,
+        Some(byte) => 256 + byte as u16,
     }
 }
 
 // What a number stands for.
-pub fn from(number: u32) -> Held
+#[tactic(auto, unfolding(ground_rules::specs::Holdings::held_from))]
+pub fn from(number: u32) -> Option<u8>
     ensures { result ≡ held_from number }
 {
     if number < 256 {
-        return Held::NoByte;
+        return None;
     }
-    Held::Byte((number % 256) as u8)
+    Some((number % 256) as u8)
 }
 
 // Whether a number stands for something held or for nothing.
+#[tactic(auto, unfolding(ground_rules::specs::Holdings::is_held_number))]
 pub fn stands(number: u32) -> bool
     ensures { result ≡ is_held_number number }
 {

@@ -1,4 +1,4 @@
-// The fields of PSW under their names.
+// The fields of PSW under their names, a function for each: the name is all that it adds to `words::bit`.
 ghost use Rattle.std.specs.Prelude.{◌≡◌};
 ghost use Rattle.ground_rules.specs.Psw as Psw;
 ghost use Rattle.ground_rules.specs.Psw.{with_psw};
@@ -56,6 +56,7 @@ pub fn interrupt_service(psw: u8) -> bool
 }
 
 // The interrupt line that a host reads: up while IS and IC are both 1.
+#[tactic(auto, unfolding(ground_rules::specs::Psw::interrupt_line))]
 pub fn interrupt_line(psw: u8) -> bool
     ensures { result ≡ Psw.interrupt_line psw }
 {

@@ -6,6 +6,7 @@ use crate::cc;
 use ground_rules::{Channel, Pointer};
 
 // The value of a register: a pointer's address, or 16 bits.
+#[tactic(auto, unfolding(ground_rules::specs::Registers::register_of, ground_rules::specs::Registers::by_rrr))]
 pub fn value(c: Channel, rrr: u32) -> u32
     ensures { result ≡ register_of c rrr }
 {
@@ -22,6 +23,7 @@ pub fn value(c: Channel, rrr: u32) -> u32
 }
 
 // The tag of a register that is a pointer, else false.
+#[tactic(auto, unfolding(ground_rules::specs::Registers::tag_of, ground_rules::specs::Registers::by_rrr))]
 pub fn tag(c: Channel, rrr: u32) -> bool
     ensures { result ≡ tag_of c rrr }
 {
@@ -35,6 +37,7 @@ pub fn tag(c: Channel, rrr: u32) -> bool
 }
 
 // The channel with a register written; a pointer takes the tag too, and CC renews its fields.
+#[tactic(auto, unfolding(ground_rules::specs::Registers::with_register))]
 pub fn with(c: Channel, rrr: u32, value: u32, tag: bool) -> Channel
     ensures { result ≡ with_register c rrr value tag }
 {
@@ -61,6 +64,7 @@ pub fn with(c: Channel, rrr: u32, value: u32, tag: bool) -> Channel
 }
 
 // The base pointer that MM names.
+#[tactic(auto, unfolding(ground_rules::specs::Registers::base_of))]
 pub fn base(c: Channel, mm: u32) -> Pointer
     ensures { result ≡ base_of c mm }
 {

@@ -2,13 +2,15 @@
 ghost use Rattle.std.specs.Prelude.{false, ◌≡◌};
 ghost use Rattle.ground_rules.specs.Buffers.{lent};
 ghost use Rattle.ground_rules.specs.Outcomes.{given_number};
+ghost use Rattle.ground_rules.specs.Refusals.{answered};
 ghost use Rattle.ground_rules.specs.States as States;
 ghost use Rattle.ground_rules.specs.States.{board_with, idle_channel, blank_state, reset_state, fresh_of, channel_of, with_channel, with_last, sound_channel, fields_agree, is_running, is_suspended, block_of, busy_in, is_channel, is_second, channel_number};
 
 use crate::cc;
-use ground_rules::{Board, Channel, Held, Made, Mode, Pointer, State};
+use ground_rules::{Board, Channel, Made, Mode, Pointer, Refusal, State};
 
 // A channel with all at 0 and idle.
+#[tactic(auto, unfolding(ground_rules::specs::States::idle_channel))]
 pub fn idle() -> Channel
     ensures { result ≡ idle_channel }
 {
@@ -30,7 +32,7 @@ pub fn idle() -> Channel
         mode: Mode::Idle,
         armed: false,
         fields: cc::split(0),
-        held: Held::NoByte,
+        held: None,
     }
 }
 
@@ -61,6 +63,7 @@ fn unread(powered: bool) -> Board
 }
 
 // A fresh state of a CP, or 10 and the one of CP 0.
+#[tactic(auto, unfolding(ground_rules::specs::States::fresh_of, ground_rules::specs::States::fresh_state))]
 pub fn fresh(cp: u32) -> Made
     ensures { result ≡ fresh_of cp }
 {
@@ -74,6 +77,7 @@ pub fn fresh(cp: u32) -> Made
 }
 
 // The state after reset, which only power-up leads out of.
+#[tactic(auto, unfolding(ground_rules::specs::States::reset_state))]
 pub fn reset() -> State
     ensures { result ≡ reset_state }
 {
@@ -81,6 +85,7 @@ pub fn reset() -> State
 }
 
 // Whether no pointer of a channel is past 20 bits.
+#[tactic(auto, unfolding(ground_rules::specs::States::sound_channel))]
 pub fn sound_channel(c: Channel) -> bool
     ensures { result ≡ sound_channel c }
 {
@@ -92,6 +97,7 @@ pub fn sound_channel(c: Channel) -> bool
 }
 
 // Whether no pointer of either channel, nor CP, is past 20 bits.
+#[tactic(auto, unfolding(ground_rules::specs::States::sound))]
 pub fn sound(s: State) -> bool
     ensures { result ≡ States.sound s }
 {
@@ -102,11 +108,11 @@ pub fn sound(s: State) -> bool
 pub fn fields_agree(c: Channel) -> bool
     ensures { result ≡ fields_agree c }
 {
-    let fields = c.fields;
-    cc::same(fields, cc::split(c.cc))
+    c.fields == cc::split(c.cc)
 }
 
 // Whether the fields of both channels are those of their CC.
+#[tactic(auto, unfolding(ground_rules::specs::States::agree))]
 pub fn agree(s: State) -> bool
     ensures { result ≡ States.agree s }
 {
@@ -114,6 +120,7 @@ pub fn agree(s: State) -> bool
 }
 
 // The channel of a name: false is channel 1, true is channel 2.
+#[tactic(auto, unfolding(ground_rules::specs::States::channel_of))]
 pub fn channel(s: State, second: bool) -> Channel
     ensures { result ≡ channel_of s second }
 {
@@ -121,6 +128,7 @@ pub fn channel(s: State, second: bool) -> Channel
 }
 
 // The state with a channel put back under its name.
+#[tactic(auto, unfolding(ground_rules::specs::States::with_channel))]
 pub fn with_channel(s: State, second: bool, c: Channel) -> State
     ensures { result ≡ with_channel s second c }
 {
@@ -134,6 +142,7 @@ pub fn with_channel(s: State, second: bool, c: Channel) -> State
 }
 
 // The state with the channel that stepped last.
+#[tactic(auto, unfolding(ground_rules::specs::States::with_last))]
 pub fn with_last(s: State, second: bool) -> State
     ensures { result ≡ with_last s second }
 {
@@ -146,25 +155,18 @@ pub fn with_last(s: State, second: bool) -> State
 pub fn is_running(mode: Mode) -> bool
     ensures { result ≡ is_running mode }
 {
-    match mode {
-        Mode::Idle => false,
-        Mode::Running => true,
-        Mode::Suspended => false,
-    }
+    mode.is_running()
 }
 
 // Whether a channel of a mode is suspended.
 pub fn is_suspended(mode: Mode) -> bool
     ensures { result ≡ is_suspended mode }
 {
-    match mode {
-        Mode::Idle => false,
-        Mode::Running => false,
-        Mode::Suspended => true,
-    }
+    mode.is_suspended()
 }
 
 // Where a channel's block starts.
+#[tactic(auto, unfolding(ground_rules::specs::States::block_of))]
 pub fn block(s: State, second: bool) -> u32
     ensures { result ≡ block_of s second }
 {
@@ -172,6 +174,7 @@ pub fn block(s: State, second: bool) -> u32
 }
 
 // Where BUSY stands in a channel's block.
+#[tactic(auto, unfolding(ground_rules::specs::States::busy_in))]
 pub fn busy(block: u32) -> u32
     ensures { result ≡ busy_in block }
 {
@@ -179,6 +182,7 @@ pub fn busy(block: u32) -> u32
 }
 
 // Whether a number names a channel.
+#[tactic(auto, unfolding(ground_rules::specs::States::is_channel))]
 pub fn is_channel(number: u32) -> bool
     ensures { result ≡ is_channel number }
 {
@@ -186,6 +190,7 @@ pub fn is_channel(number: u32) -> bool
 }
 
 // Whether a number names channel 2.
+#[tactic(auto, unfolding(ground_rules::specs::States::is_second))]
 pub fn is_second(number: u32) -> bool
     ensures { result ≡ is_second number }
 {
@@ -193,25 +198,30 @@ pub fn is_second(number: u32) -> bool
 }
 
 // The number of a channel.
+#[tactic(auto, unfolding(ground_rules::specs::States::channel_number))]
 pub fn number(second: bool) -> u32
     ensures { result ≡ channel_number second }
 {
     if second { 2 } else { 1 }
 }
 
-// The refusal of what a call is given: 11 for a buffer past its limit, 10 for a state that is not sound, 13 for one that
-// is not powered up, 14 for one whose fields are not those of CC, else 0.
-pub fn given_number(s: State, sys: &[u8], io: &[u8]) -> u32
-    ensures { result ≡ given_number s (lent sys.now io.now) }
+// Refuses what a call is given: a buffer past its limit, a state that is not sound, one that is not powered up, or one
+// whose fields are not those of CC.
+#[tactic(auto, unfolding(ground_rules::specs::Outcomes::given_number, ground_rules::specs::Outcomes::first, ground_rules::specs::Outcomes::unless))]
+pub fn check_given(s: State, sys: &[u8], io: &[u8]) -> Result<(), Refusal>
+    ensures { answered result ≡ given_number s (lent sys.now io.now) }
 {
     if !memory::within_limits(sys, io) {
-        return 11;
+        return Err(Refusal::BufferTooLong);
     }
     if !sound(s) {
-        return 10;
+        return Err(Refusal::UnsoundState);
     }
     if !s.board.powered {
-        return 13;
+        return Err(Refusal::NotPoweredUp);
     }
-    if agree(s) { 0 } else { 14 }
+    if !agree(s) {
+        return Err(Refusal::FieldsDiffer);
+    }
+    Ok(())
 }

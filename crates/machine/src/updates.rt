@@ -4,9 +4,10 @@ ghost use Rattle.ground_rules.specs.Updates as Updates;
 ghost use Rattle.ground_rules.specs.Updates.{with_control, renewed, holding, dropped, stopped_psw};
 
 use crate::psw;
-use ground_rules::{Channel, Held, Mode, Pointer};
+use ground_rules::{Channel, Mode, Pointer};
 
 // The channel with other TP, PP, PSW, mode and mark.
+#[tactic(auto, unfolding(ground_rules::specs::Updates::with_control))]
 pub fn with_control(c: Channel, tp: Pointer, pp: u32, psw: u8, mode: Mode, armed: bool) -> Channel
     ensures { result ≡ with_control c tp pp psw mode armed }
 {
@@ -35,7 +36,7 @@ pub fn with_control(c: Channel, tp: Pointer, pp: u32, psw: u8, mode: Mode, armed
 
 // The channel that holds a byte, or none, and is otherwise as it was. Its pointers are copied by their parts: as one of
 // eight bytes each would be taken apart and put together again at every step.
-pub fn holds(c: Channel, held: Held) -> Channel
+pub fn holds(c: Channel, held: Option<u8>) -> Channel
     ensures { result ≡ holding c held }
 {
     let mode = c.mode;
@@ -71,10 +72,11 @@ pub fn holds(c: Channel, held: Held) -> Channel
 }
 
 // The channel as an instruction finds it: other TP and PSW, no mark, and nothing held.
+#[tactic(auto, unfolding(ground_rules::specs::Updates::renewed))]
 pub fn begun(c: Channel, tp: Pointer, psw: u8) -> Channel
     ensures { result ≡ dropped (renewed c tp c.ix psw c.mode false) }
 {
-    let mut next = holds(c, Held::NoByte);
+    let mut next = holds(c, None);
     next.tp = tp;
     next.psw = psw;
     next.armed = false;
@@ -82,6 +84,7 @@ pub fn begun(c: Channel, tp: Pointer, psw: u8) -> Channel
 }
 
 // PSW of a channel that stops.
+#[tactic(auto, unfolding(ground_rules::specs::Updates::stopped_psw))]
 pub fn stopped_psw(before: u8) -> u8
     ensures { result ≡ stopped_psw before }
 {
@@ -89,12 +92,13 @@ pub fn stopped_psw(before: u8) -> u8
 }
 
 // The channel that halts.
+#[tactic(auto, unfolding(ground_rules::specs::Updates::halted))]
 pub fn halted(c: Channel) -> Channel
     ensures { result ≡ Updates.halted c }
 {
     let tp = c.tp;
     holds(
         with_control(c, tp, c.pp, stopped_psw(c.psw), Mode::Idle, false),
-        Held::NoByte,
+        None,
     )
 }

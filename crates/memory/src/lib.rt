@@ -12,6 +12,7 @@ ghost use Rattle.ground_rules.specs.Places.{span, all_lent, all_touchable};
 use ground_rules::Pointer;
 
 // The place n bytes on.
+#[tactic(auto, unfolding(ground_rules::specs::Values::onward))]
 pub fn onward(p: Pointer, n: u32) -> Pointer
     ensures { result ≡ Values.onward p n }
 {
@@ -22,6 +23,7 @@ pub fn onward(p: Pointer, n: u32) -> Pointer
 }
 
 // Where an address lies in its buffer.
+#[tactic(auto, unfolding(ground_rules::specs::Buffers::index_of, ground_rules::specs::Buffers::limit_of))]
 fn index(tag: bool, address: u32) -> usize
     ensures { result ≡ index_of tag address }
 {
@@ -36,19 +38,21 @@ fn index(tag: bool, address: u32) -> usize
 fn read(space: &[u8], at: usize, beyond: u8) -> u8
     ensures { result ≡ get_or space.now at beyond }
 {
-    if at < space.len() { space[at] } else { beyond }
+    space.get(at).copied().unwrap_or(beyond)
 }
 
 // A byte put into a buffer, or nothing beyond its end.
 fn write(buffer: &mut [u8], at: usize, v: u8)
     ensures { buffer.new ≡ set buffer.old at v }
 {
+    // By index: no proof ties what `get_mut` lends to the buffer that it leaves.
     if at < buffer.len() {
         buffer[at] = v;
     }
 }
 
 // Whether neither buffer is longer than its limit.
+#[tactic(auto, unfolding(ground_rules::specs::Buffers::within_limits, ground_rules::specs::Buffers::limit_of))]
 pub fn within_limits(sys: &[u8], io: &[u8]) -> bool
     ensures { result ≡ within_limits (lent sys.now io.now) }
 {
@@ -56,6 +60,7 @@ pub fn within_limits(sys: &[u8], io: &[u8]) -> bool
 }
 
 // Whether the byte at an address is lent.
+#[tactic(auto, unfolding(ground_rules::specs::Buffers::lent_at, ground_rules::specs::Buffers::space_of))]
 pub fn lent(sys: &[u8], io: &[u8], tag: bool, address: u32) -> bool
     ensures { result ≡ lent_at (lent sys.now io.now) tag address }
 {
@@ -91,6 +96,7 @@ pub fn span_lent(sys: &[u8], io: &[u8], tag: bool, address: u32, count: u32) -> 
 }
 
 // Whether a call may touch the byte at an address: in I/O space always, in system space where it is lent.
+#[tactic(auto, unfolding(ground_rules::specs::Buffers::touchable_at))]
 pub fn touchable(sys: &[u8], io: &[u8], tag: bool, address: u32) -> bool
     ensures { result ≡ touchable_at (lent sys.now io.now) tag address }
 {
@@ -111,6 +117,7 @@ pub fn span_touchable(sys: &[u8], io: &[u8], tag: bool, address: u32, count: u32
 }
 
 // The byte at an address; FFh from an empty slot of I/O space.
+#[tactic(auto, unfolding(ground_rules::specs::Buffers::byte_at, ground_rules::specs::Buffers::beyond_in, ground_rules::specs::Buffers::space_of))]
 pub fn byte(sys: &[u8], io: &[u8], tag: bool, address: u32) -> u8
     ensures { result ≡ byte_at (lent sys.now io.now) tag address }
 {
@@ -154,6 +161,7 @@ pub fn stored_pointer(sys: &[u8], io: &[u8], tag: bool, address: u32) -> Pointer
 }
 
 // A byte stored at an address.
+#[tactic(auto, unfolding(ground_rules::specs::Buffers::store_byte))]
 pub fn store_byte(sys: &mut [u8], io: &mut [u8], tag: bool, address: u32, v: u8)
     ensures { lent sys.new io.new ≡ store_byte (lent sys.old io.old) tag address v }
 {

@@ -18,6 +18,7 @@ use Rattle.listing_rules.specs.Lines.{line_with, instruction_line}
 use Rattle.listing_rules.specs.declared.Slots.{Slots}
 use Rattle.listing_rules.proofs.LineLaws.{line-short}
 use Rattle.notation.specs.Writing.{held_by, held_in, held_in4, Fits, Wrote}
+use Rattle.notation.specs.declared.lines.Line.{Line}
 use Rattle.notation.specs.declared.pieces.Pieces.{Pieces}
 
 -- the number that holds some characters
@@ -148,3 +149,11 @@ wrote-line {a} {b} {text} {n} w =
 pub line-fits : (chars bytes : List ℕ) (end : ℕ) (s : Shape) (to : Memory) (places : Slots) → length chars ≡ 28 → places ≡ slots_of s to → Fits chars 0 (line_with (mnemonic_of s) places bytes end)
 unfolding instruction_line
 line-fits chars bytes end s to places size e = rw e (record { size = size; room = omega (arith, line-short bytes end s to) })
+
+-- the same of a line that is begun
+pub line-begun : (line : Line) (bytes : List ℕ) (end : ℕ) (s : Shape) (to : Memory) (places : Slots) → (length line.chars ≡ 28) × (line.len ≡ 0) → places ≡ slots_of s to
+    → Fits line.chars line.len (line_with (mnemonic_of s) places bytes end)
+line-begun line bytes end s to places new e = rw new.1 (line-fits line.chars bytes end s to places new.0 e)
+
+pub line-written : {a b text : List ℕ} {at n : ℕ} → at ≡ 0 → Wrote a b at n text → (take n b ≡ text) × (n ≡ length (take n b))
+line-written z w = wrote-line (rw z at w)

@@ -26,7 +26,7 @@ fn after_offset(m: Memory) -> u32
     2 + decode::offset_length(m)
 }
 
-// No operand.
+// No operand. This and the next two stand here, since the room that declares `Slots` holds no function.
 fn bare() -> Slots
     ensures { result ≡ slots Empty Empty Empty }
 {

@@ -4,6 +4,7 @@ ghost use Rattle.listing_rules.specs.Mnemonics.{is_listed};
 ghost use Rattle.listing_rules.specs.Lines.{instruction_line, data_line};
 ghost use Rattle.notation.specs.Writing.{text_in};
 
+use crate::pieces::Pieces;
 use crate::{forms, mnemonics, pieces};
 use instruction_rules::{Memory, Shape};
 
@@ -12,6 +13,47 @@ use instruction_rules::{Memory, Shape};
 pub struct Line {
     pub chars: [u8; 28],
     pub len: usize,
+}
+
+impl Line {
+    ghost use Rattle.notation.specs.Writing.{held_in, held_in4, Fits, Wrote};
+
+    // A line without characters.
+    fn new() -> Line
+        ensures { (length result.chars ≡ 28) × (result.len ≡ 0) }
+    {
+        Line {
+            chars: [0; 28],
+            len: 0,
+        }
+    }
+
+    // Puts the characters of a number behind those of the line; the length stands in a variable meanwhile, since in the field
+    // it counts 4 to 8 % more for each listed byte.
+    fn push(&mut self, piece: u64)
+        requires { Fits self.old.chars self.old.len (held_in piece) }
+        ensures { Wrote self.old.chars self.new.chars self.old.len self.new.len (held_in piece) }
+    {
+        let mut rest = piece;
+        let mut len = self.len;
+        while rest != 0 {
+            self.chars[len] = (rest % 256) as u8;
+            len += 1;
+            rest /= 256;
+        }
+        self.len = len;
+    }
+
+    // Puts the characters of four numbers behind those of the line.
+    fn push_all(&mut self, pieces: Pieces)
+        requires { Fits self.old.chars self.old.len (held_in4 pieces) }
+        ensures { Wrote self.old.chars self.new.chars self.old.len self.new.len (held_in4 pieces) }
+    {
+        self.push(pieces.0);
+        self.push(pieces.1);
+        self.push(pieces.2);
+        self.push(pieces.3);
+    }
 }
 
 // Whether an instruction has a line of its own: all but CALL with W 0.
@@ -30,17 +72,14 @@ pub fn listed(s: Shape) -> bool
 pub fn instruction_line(bytes: &[u8], end: u32, s: Shape, to: Memory) -> Line
     ensures { (text_in result ≡ instruction_line bytes.now end s to) × (result.len ≡ length (text_in result)) }
 {
-    let mut chars = [0u8; 28];
     let places = forms::slots_of(s, to);
-    let first = places.first;
-    let second = places.second;
-    let third = places.third;
-    let a = pieces::put_all(&mut chars, 0, mnemonics::mnemonic(s));
-    let b = pieces::put_all(&mut chars, a, forms::operand(32, bytes, end, first));
-    let c = pieces::put_all(&mut chars, b, forms::operand(44, bytes, end, second));
-    let d = pieces::put_all(&mut chars, c, forms::operand(44, bytes, end, third));
-    let len = pieces::put(&mut chars, d, 10);
-    Line { chars, len }
+    let mut line = Line::new();
+    line.push_all(mnemonics::mnemonic(s));
+    line.push_all(forms::operand(32, bytes, end, places.first));
+    line.push_all(forms::operand(44, bytes, end, places.second));
+    line.push_all(forms::operand(44, bytes, end, places.third));
+    line.push(10);
+    line
 }
 
 // The first five of some bytes, or all of them.
@@ -54,17 +93,14 @@ fn first_five(bytes: &[u8]) -> &[u8]
 pub fn data_line(bytes: &[u8]) -> Line
     ensures { (text_in result ≡ data_line (take 5 bytes.now)) × (result.len ≡ length (text_in result)) }
 {
-    let part = first_five(bytes);
-    let mut chars = [0u8; 28];
-    let mut at = pieces::put(&mut chars, 0, 0x4244);
+    let mut line = Line::new();
+    line.push(0x4244);
     let mut separator: u64 = 32;
-    let mut i: usize = 0;
-    while i < part.len() {
-        let b = pieces::put(&mut chars, at, separator);
-        at = pieces::put(&mut chars, b, pieces::byte_number(part[i]));
+    for b in first_five(bytes) {
+        line.push(separator);
+        line.push(pieces::byte_number(*b));
         separator = 44;
-        i += 1;
     }
-    let len = pieces::put(&mut chars, at, 10);
-    Line { chars, len }
+    line.push(10);
+    line
 }

@@ -1,6 +1,7 @@
 // The words of the instructions.
 ghost use Rattle.std.specs.Prelude.{◌≡◌};
 ghost use Rattle.ground_rules.specs.Choice.{pick};
+ghost use Rattle.listing_rules.specs.Characters.{ascii};
 ghost use Rattle.listing_rules.specs.Mnemonics.{long_mark, byte_mark, work_stem, single_stem, is_jump, mnemonic_of};
 ghost use Rattle.notation.specs.Writing.{held_in, held_in4};
 
@@ -45,24 +46,22 @@ fn single_stem(single: Single) -> u64
     }
 }
 
+// JZ or JNZ.
+fn zero_stem(zero: bool) -> u64
+    ensures { held_in result ≡ pick zero (ascii "JZ") (ascii "JNZ") }
+{
+    if zero { 0x5A4A } else { 0x5A4E4A }
+}
+
 // Whether an immediate to a register is a jump: ADDI to TP.
 pub fn is_jump(work: Work, rrr: u32) -> bool
     ensures { result ≡ is_jump work rrr }
 {
-    match work {
-        Work::Mov => false,
-        Work::Add => rrr == 4,
-        Work::Or => false,
-        Work::And => false,
-        Work::Not => false,
+    if let Work::Add = work {
+        rrr == 4
+    } else {
+        false
     }
-}
-
-// One word or another.
-fn either(test: bool, a: u64, b: u64) -> u64
-    ensures { held_in result ≡ pick test (held_in a) (held_in b) }
-{
-    if test { a } else { b }
 }
 
 // The word of an instruction.
@@ -84,19 +83,14 @@ pub fn mnemonic(s: Shape) -> Pieces
             }
         }
         Shape::Register { single, .. } => Pieces(0, single_stem(single), 0, 0),
-        Shape::JumpRegister { zero, two, .. } => Pieces(
-            long_mark(two),
-            either(zero, 0x5A4A, 0x5A4E4A),
-            0,
-            0,
-        ),
+        Shape::JumpRegister { zero, two, .. } => Pieces(long_mark(two), zero_stem(zero), 0, 0),
         Shape::RegisterMemory { work, m, .. } => Pieces(0, work_stem(work), byte_mark(m.wide), 0),
         Shape::MemoryRegister { work, m, .. } => Pieces(0, work_stem(work), byte_mark(m.wide), 0),
         Shape::MemoryImmediate { work, m } => Pieces(0, work_stem(work), byte_mark(m.wide), 0x49),
         Shape::MemoryAlone { single, m } => Pieces(0, single_stem(single), byte_mark(m.wide), 0),
         Shape::JumpMemory { zero, m, two } => Pieces(
             long_mark(two),
-            either(zero, 0x5A4A, 0x5A4E4A),
+            zero_stem(zero),
             byte_mark(m.wide),
             0,
         ),
@@ -108,16 +102,16 @@ pub fn mnemonic(s: Shape) -> Pieces
         Shape::Call { two, .. } => Pieces(long_mark(two), 0x4C4C4143, 0, 0),
         Shape::JumpMasked { equal, two, .. } => Pieces(
             long_mark(two),
-            either(equal, 0x45434D4A, 0x45_4E434D4A),
+            if equal { 0x45434D4A } else { 0x45_4E434D4A },
             0,
             0,
         ),
         Shape::JumpBit { set, two, .. } => Pieces(
             long_mark(two),
-            either(set, 0x54424A, 0x54424E4A),
+            if set { 0x54424A } else { 0x54424E4A },
             0,
             0,
         ),
-        Shape::Bit { on, .. } => Pieces(0, either(on, 0x42544553, 0x524C43), 0, 0),
+        Shape::Bit { on, .. } => Pieces(0, if on { 0x42544553 } else { 0x524C43 }, 0, 0),
     }
 }

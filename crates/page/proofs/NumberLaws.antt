@@ -1,15 +1,13 @@
 -- The laws of numbers as characters: how many there are at most, and zeros in front passed over one at a time.
 -- Assumes nothing.
-use mathlib.Core.Bool.{Bool, true, false}
-use mathlib.Core.List.{List, [], ◌∷◌}
-use mathlib.Core.Path.{◌≡◌, refl, sym, ap, ◌∙◌}
-use Prim.Native.Nat.{ℕ, suc, ◌+◌, ◌-◌, ◌≤◌, ◌<◌}
-use native.Mathlib.Numerals.{add-one}
-use native.Mathlib.Omega.{arith}
-use borrow.Author.Tests.{eq-eqb, ne_eqb}
+use Rattle.std.proofs.Common.{◌≡◌, ◌==◌, ◌⊎◌, inl, inr, refl, Bool, true, false, not, cond, List, [], ◌∷◌, ℕ, zero, suc, ◌+◌, ◌-◌, ◌≤◌, ◌<◌, length, take, drop, unwrap_or, one-add, arith}
+use Rattle.std.specs.List.{position, position_or_len}
+use Rattle.std.proofs.lemmas.Bool.{cases_lt}
+use Rattle.std.proofs.lemmas.List.{length-take}
+use Rattle.std.proofs.lemmas.List.Sums.{prefix_len-le-length}
+use borrow.Author.Tests.{lt-ltb, le-ltb}
 use lib.Dec.{eqb}
-use lib.ListN.{length, drop, get_or, length-drop}
-use lib.Seq.{drop-cons}
+use lib.ListN.{length-drop}
 use Rattle.ground_rules.specs.Choice.{pick}
 use Rattle.page.specs.Numbers.{eight_digits, hex, ten_digits, unpadded, decimal}
 
@@ -39,29 +37,35 @@ decimal-short n = unpadded-short (ten_digits n)
 
 -- ---- zeros in front
 
-module _ (digits : List ℕ) (i : ℕ) where
-  -- a zero that is not the last digit is passed over
-  pub unpadded-zero : i + 1 < length digits → get_or digits i 0 ≡ 48 → unpadded (drop (i + 1) digits) ≡ unpadded (drop i digits)
-  unfolding unpadded
-  unpadded-zero h e =
-      let here : i < length digits = omega arith in
-      rw (drop-cons digits i 0 here, add-one i, drop-cons digits (suc i) 0 (rw (add-one i) at h), eq-eqb (get_or digits i 0) 48 e)
+-- of the places up to the last, the first that passes, or the last
+first_or_last : (p : ℕ → Bool) (l : List ℕ) (n : ℕ) → length l ≡ n → unwrap_or (position p l) n ≡ position_or_len p l
+first_or_last p l n e = go (cases_lt (position_or_len p l) (length l))
+  where
+    go : (position_or_len p l < length l) ⊎ (length l ≤ position_or_len p l) → unwrap_or (position p l) n ≡ position_or_len p l
+    go (inl h) = rw (lt-ltb (position_or_len p l) (length l) h)
+    go (inr h) = rw (le-ltb (position_or_len p l) (length l) h) (omega (arith, prefix_len-le-length (λ x. not (p x)) l))
 
-  -- any other digit stays, and what stands behind it
-  pub unpadded-other : i + 1 < length digits → (get_or digits i 0 ≡ 48 → ⊥) → drop i digits ≡ unpadded (drop i digits)
-  unfolding unpadded
-  unpadded-other h ne =
-      let here : i < length digits = omega arith in
-      rw (drop-cons digits i 0 here, drop-cons digits (suc i) 0 (rw (add-one i) at h), ne_eqb (get_or digits i 0) 48 ne)
+-- the digits from the first that is no zero on, at the latest the last one
+from_first : (n : ℕ) (digits : List ℕ) → length digits ≡ n + 1 → drop (position_or_len (λ d. not (d == 48)) (take n digits)) digits ≡ unpadded digits
+unfolding unpadded
+from_first zero (d ∷ []) e = refl
+from_first zero [] e = absurd (omega arith)
+from_first zero (d ∷ x ∷ digits) e = absurd (omega arith)
+from_first (suc n) [] e = absurd (omega arith)
+from_first (suc n) (d ∷ []) e = absurd (omega arith)
+from_first (suc n) (d ∷ x ∷ digits) e = go (eqb d 48) (from_first n (x ∷ digits) (omega arith))
+  where
+    k : ℕ
+    k = position_or_len (λ d. not (d == 48)) (take n (x ∷ digits))
 
-  -- and so does the last
-  pub unpadded-last : i + 1 ≡ length digits → drop i digits ≡ unpadded (drop i digits)
-  unfolding unpadded
-  unpadded-last e =
-      let here : i < length digits = omega arith in
-      let none : length (drop (suc i) digits) ≡ 0 = omega (arith, length-drop (suc i) digits) in
-      rw (drop-cons digits i 0 here) (go (drop (suc i) digits) none)
-    where
-      go : (l : List ℕ) → length l ≡ 0 → get_or digits i 0 ∷ l ≡ unpadded (get_or digits i 0 ∷ l)
-      go [] z = refl
-      go (x ∷ l) z = absurd (omega arith)
+    go : (t : Bool) → drop k (x ∷ digits) ≡ unpadded (x ∷ digits)
+        → drop (cond (not (not t)) (1 + k) 0) (d ∷ x ∷ digits) ≡ pick t (unpadded (x ∷ digits)) (d ∷ x ∷ digits)
+    go true h = rw (one-add k) h
+    go false h = refl
+
+-- so of ten digits
+pub unpadded_from : (digits : List ℕ) → length digits ≡ 10
+    → drop (unwrap_or (position (λ d. not (d == 48)) (take 9 digits)) 9) digits ≡ unpadded digits
+unpadded_from digits e =
+    let nine : length (take 9 digits) ≡ 9 = omega (arith, length-take 9 digits) in
+    rw (first_or_last (λ d. not (d == 48)) (take 9 digits) 9 nine) (from_first 9 digits e)

@@ -1,105 +1,107 @@
-// Text put into a lent buffer behind the text that it has: characters, numbers, and the letter of a kind of step. What has no room is left out.
+// Text put on a page, a lent buffer with how much of it is text, behind what stands: characters, numbers, and the letter of a kind of step. What has no room is left out.
 #![tactic(auto)]
 
-ghost use Rattle.std.specs.Prelude.{◌≡◌, ◌≤◌, ◌<◌, length, drop};
-ghost use Rattle.page.specs.Pages.{page, Behind};
+ghost use Rattle.std.specs.Prelude.{◌≡◌, ◌<◌, ◌==◌, not, position, take};
+ghost use Rattle.page.specs.Pages.{sheet, written};
 ghost use Rattle.page.specs.Numbers as Numbers;
-ghost use Rattle.page.specs.Numbers.{hex, decimal, unpadded};
+ghost use Rattle.page.specs.Numbers.{hex, eight_digits, decimal, unpadded};
 
 use turn_rules::Kind;
 
-// Puts bytes behind the first `at` of a buffer, and answers how many are text then.
-pub fn append(out: &mut [u8], at: usize, piece: &[u8]) -> usize
-    ensures { Behind (page out.old at) (page out.new result) piece.now }
-{
-    let mut i: usize = 0;
-    let mut to = at;
-    while i < piece.len() {
-        if out.len() <= to {
-            return to;
-        }
-        out[to] = piece[i];
-        to += 1;
-        i += 1;
+// A lent buffer of any length, and how many of its first bytes are text. It is no `fmt::Write`: `write!` may answer an error, and of the page it then promises nothing.
+#[derive(Drop)]
+pub struct Page<'a> {
+    pub bytes: &'a mut [u8],
+    pub count: usize,
+}
+
+impl<'a> Page<'a> {
+    // Puts a text behind the one that stands.
+    pub fn append(&mut self, text: &[u8])
+        ensures put { sheet self.new ≡ written (sheet self.old) text.now }
+        ensures same { self.new.bytes.ghost_name ≡ self.old.bytes.ghost_name }
+    {
+        let from = self.count.min(self.bytes.len());
+        let fitting = &text[..(self.bytes.len() - from).min(text.len())];
+        self.bytes[from..from + fitting.len()].copy_from_slice(fitting);
+        self.count += fitting.len();
     }
-    to
+
+    // Puts the last `width` hexadecimal digits of a number behind the text; at most eight.
+    pub fn append_hex(&mut self, n: u64, width: usize, small: bool)
+        ensures put { sheet self.new ≡ written (sheet self.old) (hex small width n) }
+        ensures same { self.new.bytes.ghost_name ≡ self.old.bytes.ghost_name }
+    {
+        self.append(&hex_digits(n, small)[8 - width.min(8)..]);
+    }
+
+    // Puts a number in decimal behind the text.
+    pub fn append_decimal(&mut self, n: u32)
+        ensures put { sheet self.new ≡ written (sheet self.old) (decimal n) }
+        ensures same { self.new.bytes.ghost_name ≡ self.old.bytes.ghost_name }
+    {
+        // One by one: a `map` over the units would have to show that none of them is 0, and of an array's item the check knows nothing.
+        let digits = [
+            b'0' + (n / 1000000000 % 10) as u8,
+            b'0' + (n / 100000000 % 10) as u8,
+            b'0' + (n / 10000000 % 10) as u8,
+            b'0' + (n / 1000000 % 10) as u8,
+            b'0' + (n / 100000 % 10) as u8,
+            b'0' + (n / 10000 % 10) as u8,
+            b'0' + (n / 1000 % 10) as u8,
+            b'0' + (n / 100 % 10) as u8,
+            b'0' + (n / 10 % 10) as u8,
+            b'0' + (n % 10) as u8,
+        ];
+        self.append(unpadded(&digits));
+    }
 }
 
 // A hexadecimal digit; from ten on a letter, small or capital.
-fn glyph(small: bool, d: u64) -> u8
-    requires { d < 16 }
-    ensures { result ≡ Numbers.glyph small d }
+#[tactic(auto, unfolding(crate::specs::Numbers::glyph))]
+fn glyph(small: bool, digit: u64) -> u8
+    requires { digit < 16 }
+    ensures { result ≡ Numbers.glyph small digit }
 {
-    if d < 10 {
-        return 48 + d as u8;
+    let digit = digit as u8;
+    match digit {
+        0..=9 => b'0' + digit,
+        _ if small => b'a' - 10 + digit,
+        _ => b'A' - 10 + digit,
     }
-    if small { 87 + d as u8 } else { 55 + d as u8 }
 }
 
-// Puts the last `width` hexadecimal digits of a number behind a text; at most eight.
-pub fn append_hex(out: &mut [u8], at: usize, n: u64, width: usize, small: bool) -> usize
-    ensures { Behind (page out.old at) (page out.new result) (hex small width n) }
+// The last eight hexadecimal digits of a number.
+#[tactic(auto, unfolding(crate::specs::Numbers::eight_digits))]
+fn hex_digits(n: u64, small: bool) -> [u8; 8]
+    ensures { result ≡ eight_digits small n }
 {
-    let digits = [
-        glyph(small, n / 268435456 % 16),
-        glyph(small, n / 16777216 % 16),
-        glyph(small, n / 1048576 % 16),
-        glyph(small, n / 65536 % 16),
-        glyph(small, n / 4096 % 16),
-        glyph(small, n / 256 % 16),
-        glyph(small, n / 16 % 16),
-        glyph(small, n % 16),
-    ];
-    if 8 <= width {
-        return append(out, at, &digits);
-    }
-    let from = 8 - width;
-    append(out, at, &digits[from..])
+    [28, 24, 20, 16, 12, 8, 4, 0].map(|shift| glyph(small, n.wrapping_shr(shift) % 16))
 }
 
-// How many zeros stand in front of ten digits; the last digit is never one of them.
-fn zeros_in_front(digits: &[u8]) -> usize
-    requires { 10 ≡ length digits.now }
-    ensures { (result ≤ 9) × (drop result digits.now ≡ unpadded digits.now) }
+// Where the first of ten digits stands that is no zero, the last one left out.
+fn first_nonzero(digits: &[u8; 10]) -> Option<usize>
+    ensures { result ≡ position (λ d. not (d == 48)) (take 9 digits.now) }
 {
-    let mut i: usize = 0;
-    while i < 9 {
-        if digits[i] != 48 {
-            return i;
-        }
-        i += 1;
-    }
-    i
+    digits[..9].iter().position(|digit| *digit != b'0')
 }
 
-// Puts a number in decimal behind a text.
-pub fn append_decimal(out: &mut [u8], at: usize, n: u32) -> usize
-    ensures { Behind (page out.old at) (page out.new result) (decimal n) }
+// Ten digits without the zeros in front; the last digit stays.
+fn unpadded(digits: &[u8; 10]) -> &[u8]
+    ensures { result.now ≡ unpadded digits.now }
 {
-    let digits = [
-        (48 + n / 1000000000 % 10) as u8,
-        (48 + n / 100000000 % 10) as u8,
-        (48 + n / 10000000 % 10) as u8,
-        (48 + n / 1000000 % 10) as u8,
-        (48 + n / 100000 % 10) as u8,
-        (48 + n / 10000 % 10) as u8,
-        (48 + n / 1000 % 10) as u8,
-        (48 + n / 100 % 10) as u8,
-        (48 + n / 10 % 10) as u8,
-        (48 + n % 10) as u8,
-    ];
-    let from = zeros_in_front(&digits);
-    append(out, at, &digits[from..])
+    &digits[first_nonzero(digits).unwrap_or(9)..]
 }
 
 // The letter of a kind of step.
+#[tactic(auto, unfolding(crate::specs::Numbers::letter))]
 pub fn letter(kind: Kind) -> u8
     ensures { result ≡ Numbers.letter kind }
 {
     match kind {
-        Kind::Nothing => 46,
-        Kind::Instruction => 73,
-        Kind::Transfer => 84,
-        Kind::External => 88,
+        Kind::Nothing => b'.',
+        Kind::Instruction => b'I',
+        Kind::Transfer => b'T',
+        Kind::External => b'X',
     }
 }

@@ -4,10 +4,11 @@
 ghost use Rattle.std.specs.Prelude.{◌≡◌};
 ghost use Rattle.ground_rules.specs.Buffers.{lent};
 ghost use Rattle.ground_rules.specs.Places.{all_touchable};
-ghost use Rattle.ground_rules.specs.Outcomes.{outcome};
+ghost use Rattle.ground_rules.specs.Refusals.{answered, outcome_by, answer_count};
+ghost use Rattle.ground_rules.specs.declared.State.{State};
 ghost use Rattle.attention_rules.specs.Power.{configuration_of, control_of, board_of, power_places, power_number, power_up_of, power_count};
 
-use ground_rules::{Answer, Board, State};
+use ground_rules::{Answer, Board, Refusal};
 
 // Where SYSBUS stands.
 pub const SYSBUS_AT: u32 = 0xFFFF6;
@@ -16,6 +17,7 @@ pub const SYSBUS_AT: u32 = 0xFFFF6;
 pub const CONFIGURATION_AT: u32 = 0xFFFF8;
 
 // The configuration block.
+#[tactic(auto, unfolding(attention_rules::specs::Power::configuration_of))]
 pub fn configuration(sys: &[u8], io: &[u8]) -> u32
     ensures { result ≡ configuration_of (lent sys.now io.now) }
 {
@@ -23,6 +25,7 @@ pub fn configuration(sys: &[u8], io: &[u8]) -> u32
 }
 
 // The control block.
+#[tactic(auto, unfolding(attention_rules::specs::Power::control_of))]
 pub fn control(sys: &[u8], io: &[u8]) -> u32
     ensures { result ≡ control_of (lent sys.now io.now) }
 {
@@ -30,6 +33,7 @@ pub fn control(sys: &[u8], io: &[u8]) -> u32
 }
 
 // What the board set up.
+#[tactic(auto, unfolding(attention_rules::specs::Power::board_of))]
 fn read_board(sys: &[u8], io: &[u8]) -> Board
     ensures { result ≡ board_of (lent sys.now io.now) }
 {
@@ -56,36 +60,27 @@ fn board_lent(sys: &[u8], io: &[u8]) -> bool
         & memory::span_touchable(sys, io, false, busy, 1)
 }
 
-// The refusal of what a power-up is given: 11, then 2, else 0.
-fn power_number(sys: &[u8], io: &[u8]) -> u32
-    ensures { result ≡ power_number (lent sys.now io.now) }
+// Refuses a buffer past its limit, then system memory without the eleven bytes.
+fn check(sys: &[u8], io: &[u8]) -> Result<(), Refusal>
+    ensures { answered result ≡ power_number (lent sys.now io.now) }
 {
     if !memory::within_limits(sys, io) {
-        return 11;
+        return Err(Refusal::BufferTooLong);
     }
-    if board_lent(sys, io) { 0 } else { 2 }
+    if !board_lent(sys, io) {
+        return Err(Refusal::BeyondMemory);
+    }
+    Ok(())
 }
 
 // Powers the processor up: the fresh state of the CP found, with what the board set up, and BUSY of channel 1 cleared.
-pub fn power_up(s: State, sys: &mut [u8], io: &mut [u8]) -> Answer
-    ensures left { outcome result.number result.state (lent sys.new io.new) ≡ power_up_of s (lent sys.old io.old) }
-    ensures count { result.count ≡ power_count (lent sys.old io.old) }
+pub fn power_up(sys: &mut [u8], io: &mut [u8]) -> Result<Answer, Refusal>
+    ensures left { (s : State) → outcome_by s result (lent sys.new io.new) ≡ power_up_of s (lent sys.old io.old) }
+    ensures count { answer_count result ≡ power_count (lent sys.old io.old) }
 {
-    let number = power_number(sys, io);
-    if number != 0 {
-        return Answer {
-            number,
-            count: 0,
-            state: s,
-        };
-    }
+    check(sys, io)?;
     let cp = control(sys, io);
-    let board = read_board(sys, io);
-    let state = machine::states::blank(cp, board);
+    let state = machine::states::blank(cp, read_board(sys, io));
     memory::store_byte(sys, io, false, machine::states::busy(cp), 0);
-    Answer {
-        number: 0,
-        count: 11,
-        state,
-    }
+    Ok(Answer { count: 11, state })
 }

@@ -2,28 +2,51 @@
 // number names; of the other no byte is looked at.
 #![tactic(auto)]
 
-ghost use Rattle.std.specs.Prelude.{◌≡◌};
-ghost use Rattle.processor_rules.specs.Lifting.{lifted_to};
+ghost use Rattle.std.specs.Prelude.{◌≡◌, List, ℕ};
+ghost use Rattle.std.specs.Option.{unwrap_or};
+ghost use Rattle.ground_rules.specs.Buffers.{Buffers};
+ghost use Rattle.processor_rules.specs.Lifting.{Called, lifted_to, lifted};
 ghost use Rattle.processor_rules.specs.Processors.{Memories, processors, memories};
 ghost use Rattle.processor_calls.specs.Calls.{reported, pair_attention, pair_step, pair_reset, pair_power_up, pair_sweep, pair_schedule};
+ghost use Rattle.processor_calls.specs.Named.{MakesCall};
 
+use ground_rules::Refusal;
 use schedule_rules::ScheduleRow;
 
 // The calls on one processor.
 pub mod single;
 
-// Makes the state after reset of a processor.
+// Makes a call on the processor that a number names, with its state, system memory and its I/O memory; none where the
+// number names no processor.
+fn on_named<A: Drop, F: FnOnce(&mut [u8], &mut [u8], &mut [u8]) -> A>(
+    processor: u32,
+    one: &mut [u8],
+    two: &mut [u8],
+    sys: &mut [u8],
+    io1: &mut [u8],
+    io2: &mut [u8],
+    call: F,
+) -> Option<A>
+    requires { F.IsAlwaysCallable call }
+    ensures { (twelve : A) (single : List ℕ → Buffers → Called (List ℕ) A) → MakesCall F.FnOnce call single → lifted_to (unwrap_or result twelve) (processors one.new two.new) (memories sys.new io1.new io2.new) ≡ lifted twelve single (processors one.old two.old) (memories sys.old io1.old io2.old) processor }
+{
+    match processor {
+        1 => Some(call(one, sys, io1)),
+        2 => Some(call(two, sys, io2)),
+        _ => None,
+    }
+}
+
+// Makes the state after reset of a processor. It is lent no memory, so it does not go by `on_named`.
 #[unsafe(no_mangle)]
 pub extern "C" fn iop89_pair_reset(processor: u32, one: &mut [u8], two: &mut [u8]) -> u32
     ensures { (m : Memories) → lifted_to result (processors one.new two.new) m ≡ pair_reset (processors one.old two.old) m processor }
 {
-    if processor == 1 {
-        return service::iop89_reset(one);
+    match processor {
+        1 => service::iop89_reset(one),
+        2 => service::iop89_reset(two),
+        _ => Refusal::OutOfRange.number(),
     }
-    if processor == 2 {
-        return service::iop89_reset(two);
-    }
-    12
 }
 
 // Powers a processor up.
@@ -38,13 +61,16 @@ pub extern "C" fn iop89_pair_power_up(
 ) -> u32
     ensures { lifted_to result (processors one.new two.new) (memories sys.new io1.new io2.new) ≡ pair_power_up (processors one.old two.old) (memories sys.old io1.old io2.old) processor }
 {
-    if processor == 1 {
-        return service::iop89_power_up(one, sys, io1);
-    }
-    if processor == 2 {
-        return service::iop89_power_up(two, sys, io2);
-    }
-    12
+    on_named(
+        processor,
+        one,
+        two,
+        sys,
+        io1,
+        io2,
+        |state, sys, io| service::iop89_power_up(state, sys, io),
+    )
+    .unwrap_or(Refusal::OutOfRange.number())
 }
 
 // Gives a channel of a processor attention.
@@ -60,13 +86,16 @@ pub extern "C" fn iop89_pair_attention(
 ) -> u32
     ensures { lifted_to result (processors one.new two.new) (memories sys.new io1.new io2.new) ≡ pair_attention (processors one.old two.old) (memories sys.old io1.old io2.old) processor channel }
 {
-    if processor == 1 {
-        return service::iop89_attention(one, sys, io1, channel);
-    }
-    if processor == 2 {
-        return service::iop89_attention(two, sys, io2, channel);
-    }
-    12
+    on_named(
+        processor,
+        one,
+        two,
+        sys,
+        io1,
+        io2,
+        |state, sys, io| service::iop89_attention(state, sys, io, channel),
+    )
+    .unwrap_or(Refusal::OutOfRange.number())
 }
 
 // Does one step of a processor.
@@ -82,13 +111,16 @@ pub extern "C" fn iop89_pair_step(
 ) -> u32
     ensures { lifted_to result (processors one.new two.new) (memories sys.new io1.new io2.new) ≡ pair_step (processors one.old two.old) (memories sys.old io1.old io2.old) processor lines }
 {
-    if processor == 1 {
-        return service::iop89_step(one, sys, io1, lines);
-    }
-    if processor == 2 {
-        return service::iop89_step(two, sys, io2, lines);
-    }
-    12
+    on_named(
+        processor,
+        one,
+        two,
+        sys,
+        io1,
+        io2,
+        |state, sys, io| service::iop89_step(state, sys, io, lines),
+    )
+    .unwrap_or(Refusal::OutOfRange.number())
 }
 
 // Moves all bytes that the block transfer of a processor's channel has left.
@@ -105,13 +137,16 @@ pub extern "C" fn iop89_pair_sweep(
 ) -> u64
     ensures { lifted_to result (processors one.new two.new) (memories sys.new io1.new io2.new) ≡ pair_sweep (processors one.old two.old) (memories sys.old io1.old io2.old) processor channel lines }
 {
-    if processor == 1 {
-        return service::iop89_sweep(one, sys, io1, channel, lines);
-    }
-    if processor == 2 {
-        return service::iop89_sweep(two, sys, io2, channel, lines);
-    }
-    12
+    on_named(
+        processor,
+        one,
+        two,
+        sys,
+        io1,
+        io2,
+        |state, sys, io| service::iop89_sweep(state, sys, io, channel, lines),
+    )
+    .unwrap_or(Refusal::OutOfRange.number() as u64)
 }
 
 // The version of the service archive: IOP89_VERSION of the header that it was made with.
@@ -122,7 +157,8 @@ pub extern "C" fn iop89_service_version() -> u32
     200
 }
 
-// Runs the rows of a schedule on a processor; 12 clears the report too.
+// Runs the rows of a schedule on a processor; 12 clears the report too. What a closure leaves of a report that it borrows is
+// not known after its call, so this does not go by `on_named`.
 #[unsafe(no_mangle)]
 pub extern "C" fn iop89_pair_schedule(
     processor: u32,
@@ -136,12 +172,12 @@ pub extern "C" fn iop89_pair_schedule(
 ) -> u32
     ensures { lifted_to (reported result report.new) (processors one.new two.new) (memories sys.new io1.new io2.new) ≡ pair_schedule (processors one.old two.old) (memories sys.old io1.old io2.old) report.old processor rows.now }
 {
-    if processor == 1 {
-        return schedule_calls::iop89_schedule(one, rows, sys, io1, report);
+    match processor {
+        1 => schedule_calls::iop89_schedule(one, rows, sys, io1, report),
+        2 => schedule_calls::iop89_schedule(two, rows, sys, io2, report),
+        _ => {
+            schedule_calls::counting::clear(report);
+            Refusal::OutOfRange.number()
+        }
     }
-    if processor == 2 {
-        return schedule_calls::iop89_schedule(two, rows, sys, io2, report);
-    }
-    schedule_calls::counting::clear(report);
-    12
 }

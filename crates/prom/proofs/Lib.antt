@@ -1,6 +1,10 @@
 pub mod LineLaws
-pub mod RunLaws
-pub mod RecordLaws
+pub mod FrameLaws
 pub mod PlaceLaws
 pub mod LoopLaws
+pub mod RecordLaws
+pub mod DigitLaws
+pub mod EndLaws
+pub mod KindLaws
+pub mod CheckLaws
 pub mod Outcomes

@@ -1,177 +1,169 @@
--- The laws of a turn of each loop: the rest of a file, from the line at a place of the text on.
+-- The laws of a turn of each loop: over the frames of a text, and over the digits of a record, two at a time.
 -- Assumes nothing.
-use Prim.Native.Nat.{ℕ, suc, ◌+◌, ◌-◌, ◌*◌, ◌%◌, ◌<◌, ◌≤◌}
-use borrow.Author.Tests.{eq-eqb, ne_eqb}
-use lib.Dec.{eqb}
-use lib.ListN.{length, get_or, take, drop, length-drop}
-use lib.Seq.{drop-cons, drop-drop, drop-append-le, take-append-le, take_all}
-use mathlib.Core.Bool.{Bool, true, false}
-use mathlib.Core.List.{List, [], ◌∷◌}
-use mathlib.Core.Path.{◌≡◌, refl, sym, ap, subst, ◌∙◌}
+use Prim.Native.Nat.{ℕ, ◌+◌, ◌*◌, ◌%◌, ◌<◌}
+use lib.Dec.{ltb}
+use lib.ListN.{length, get_or}
+use mathlib.Core.Bool.{Bool, true, false, ◌&&◌}
+use mathlib.Core.List.{List, [], ◌∷◌, ◌++◌}
+use mathlib.Core.Path.{◌≡◌, refl, sym, ap, ap₂, ◌∙◌}
 use native.Mathlib.Decide.{ℕ_discrete}
 use native.Mathlib.Nat.{mod-eq_of_lt}
 use native.Mathlib.Omega.{arith}
+use Rattle.std.specs.Prelude.{Option, Some, None, Result, Ok, Err}
+use Rattle.std.specs.Result.{MatchResult}
+use Rattle.std.specs.Option.{option_or}
 use Rattle.ground_rules.specs.Buffers.{Buffers, store_byte}
 use Rattle.ground_rules.specs.Choice.{pick}
 use Rattle.prom_rules.specs.File.{File, file, next_line, stores_from, stores_of, segment_after, start_after, file_of}
-use Rattle.prom_rules.specs.Load.{beyond_line, store_all}
-use Rattle.prom_rules.specs.Records.{all_hex, hex_byte, hex_bytes, digits_of, record_of, hex_size, address_field, type_of, data_bytes, segment_of, line_refusal}
+use Rattle.prom_rules.specs.Load.{loading, store_all}
+use Rattle.prom_rules.specs.Records.{hex_value, all_hex, hex_byte, hex_bytes, type_of, sum_of, line_refusal}
 use Rattle.prom_rules.specs.Text.{hex_lines}
-use Rattle.prom_rules.proofs.DigitLaws.{digit-below, byte-below, bytes_drop, bytes_take, all_drop, all_take}
-use Rattle.prom_rules.proofs.FileLaws.{stores-wrap, file-bad, file-end, stored_more, number_more}
-use Rattle.prom_rules.proofs.RecordLaws.{good}
-use Rattle.prom.specs.Parts.{first_line, Fielded, judged_of, found_first, reach_of}
-use Rattle.prom.specs.declared.RecordFields.{RecordFields}
-use Rattle.prom.specs.declared.Judged.{Judged}
-use Rattle.prom.proofs.LineLaws.{others_of, rest_of, first-line, lines-some}
-use Rattle.prom.proofs.PlaceLaws.{judged-more}
-use Rattle.prom.proofs.RecordLaws.{good_length, word_below}
+use Rattle.prom_rules.proofs.FileLaws.{next-some, stores-wrap, file-bad, file-end, file-more, stored_more, number_more}
+use Rattle.prom.specs.Frames.{Framed, frame_line}
+use Rattle.prom.specs.Parts.{first_line, byte_in, sum_in, record_lent}
+use Rattle.prom.specs.Refusals.{reason_number, judged_of}
+use Rattle.prom.specs.declared.records.Frame.{Frame}
+use Rattle.prom.proofs.LineLaws.{others_of, lines-some}
+use Rattle.prom.specs.declared.refusals.LoadRefusal.{LoadRefusal}
+use Rattle.prom.proofs.PlaceLaws.{judged-record, judged-bad, number-some}
 
--- ---- what a good record bounds
+-- ---- two digits at a time
 
-module _ (t : List ℕ) (e : line_refusal (first_line t) ≡ 0) where
-  pub offset-below : address_field (record_of (first_line t)) < 65536
-  unfolding address_field
-  offset-below = word_below t e 1
-
-  pub size_below : hex_size (record_of (first_line t)) < 256
-  unfolding hex_size
-  size_below = byte-below (digits_of (first_line t)) 0 (good (first_line t) e).digits
-
-  pub segment-below : (segment : ℕ) → segment < 65536 → segment_after (record_of (first_line t)) segment < 65536
-  unfolding segment_after segment_of
-  segment-below segment h = go (eqb (type_of (record_of (first_line t))) 2)
-    where
-      go : (x : Bool) → pick x (segment_of (record_of (first_line t))) segment < 65536
-      go true = word_below t e 4
-      go false = h
-
-  -- its data are written by the digits from the tenth byte on
-  pub data-digits : data_bytes (record_of (first_line t)) ≡ hex_bytes (take (hex_size (record_of (first_line t)) * 2) (drop 9 t))
-  unfolding data_bytes
-  data-digits =
-      let n = hex_size (record_of (first_line t)) in
-      let h : 9 ≤ length (first_line t) = omega (arith, good_length t e) in
-      let k : n * 2 ≤ length (drop 9 (first_line t)) = omega (arith, good_length t e, length-drop 9 (first_line t)) in
-      ap (take n) (bytes_drop 4 8 (digits_of (first_line t)) refl)
-      ∙ bytes_take n (n * 2) (drop 8 (digits_of (first_line t))) (omega arith)
-      ∙ ap (λ (l : List ℕ). hex_bytes (take (n * 2) l)) (drop-drop 8 1 (first_line t))
-      ∙ ap hex_bytes (sym (take-append-le (n * 2) (drop 9 (first_line t)) (rest_of t) k))
-      ∙ ap (λ (l : List ℕ). hex_bytes (take (n * 2) l)) (sym (drop-append-le 9 (first_line t) (rest_of t) h))
-      ∙ ap (λ (l : List ℕ). hex_bytes (take (n * 2) (drop 9 l))) (sym (first-line t).0)
-
-  pub data-all : all_hex (take (hex_size (record_of (first_line t)) * 2) (drop 9 t)) ≡ true
-  data-all =
-      let n = hex_size (record_of (first_line t)) in
-      let h : 9 ≤ length (first_line t) = omega (arith, good_length t e) in
-      let k : n * 2 ≤ length (drop 9 (first_line t)) = omega (arith, good_length t e, length-drop 9 (first_line t)) in
-      ap (λ (l : List ℕ). all_hex (take (n * 2) (drop 9 l))) (first-line t).0
-      ∙ ap (λ (l : List ℕ). all_hex (take (n * 2) l)) (drop-append-le 9 (first_line t) (rest_of t) h)
-      ∙ ap all_hex (take-append-le (n * 2) (drop 9 (first_line t)) (rest_of t) k)
-      ∙ all_take (n * 2) (drop 9 (first_line t))
-      (subst (λ (l : List ℕ). all_hex l ≡ true) (drop-drop 8 1 (first_line t)) (all_drop 8 (digits_of (first_line t)) (good (first_line t) e).digits))
-
--- ---- bytes stored, two digits at a time
-
-pub put_step : (m : Buffers) (segment to at : ℕ) (ds : List ℕ) → all_hex ds ≡ true → at + 1 < length ds → to < 65536
-    → store_all m (stores_from 0 segment to (hex_bytes (drop at ds)))
-    ≡ store_all (store_byte m false ((segment * 16 + to) % 1048576) (hex_byte (get_or ds at 0) (get_or ds (at + 1) 0) % 256)) (stores_from 0 segment ((to + 1) % 65536) (hex_bytes (drop (at + 2) ds)))
-unfolding store_all stores_from hex_bytes
-put_step m segment to at ds d h k =
-    let a = get_or ds at 0 in
-    let b = get_or ds (at + 1) 0 in
-    let v : hex_byte a b % 256 ≡ hex_byte a b = mod-eq_of_lt (omega (arith, digit-below ds at d (omega arith), digit-below ds (at + 1) d h)) in
-    let here : to % 65536 ≡ to = mod-eq_of_lt k in
-    ap (λ (l : List ℕ). store_all m (stores_from 0 segment to (hex_bytes l))) (pair-drop ds at h)
-    ∙ rw (here, v, stores-wrap 0 segment (to + 1) ((to + 1) % 65536) (hex_bytes (drop (at + 2) ds)) (omega arith))
+-- two digits add their byte
+pub sum-more : (x ds : List ℕ) (sum v : ℕ) → length x ≡ 2 → byte_in x 0 ≡ Some v → sum_in sum (x ++ ds) ≡ sum_in ((sum + v) % 256) ds
+unfolding byte_in sum_in all_hex hex_bytes sum_of
+sum-more [] ds sum v n e = absurd (omega (arith, n))
+sum-more (a ∷ []) ds sum v n e = absurd (omega (arith, n))
+sum-more (a ∷ b ∷ c ∷ x) ds sum v n e = absurd (omega (arith, n))
+sum-more (a ∷ b ∷ []) ds sum v n e = go (ltb (hex_value a) 16) (ltb (hex_value b) 16) e
   where
-    pair-drop : (ds : List ℕ) (at : ℕ) → at + 1 < length ds → drop at ds ≡ get_or ds at 0 ∷ get_or ds (at + 1) 0 ∷ drop (at + 2) ds
-    pair-drop ds at h =
-        let i : suc at ≡ at + 1 = omega arith in
-        let j : suc (at + 1) ≡ at + 2 = omega arith in
-        drop-cons ds at 0 (omega arith)
-        ∙ ap (λ (n : ℕ). get_or ds at 0 ∷ drop n ds) i
-        ∙ ap (λ (l : List ℕ). get_or ds at 0 ∷ l) (drop-cons ds (at + 1) 0 h ∙ ap (λ (n : ℕ). get_or ds (at + 1) 0 ∷ drop n ds) j)
+    rest : ℕ
+    rest = sum_of (hex_bytes ds)
+
+    go : (y z : Bool) → pick (y && z) (Some (hex_byte a b)) None ≡ Some v
+        → pick (y && (z && all_hex ds)) (Some ((sum + (hex_byte a b + rest)) % 256)) None ≡ pick (all_hex ds) (Some (((sum + v) % 256 + rest) % 256)) None
+    go true true e =
+        let v-is : v ≡ hex_byte a b = value e in
+        let same : (sum + (hex_byte a b + rest)) % 256 ≡ ((sum + v) % 256 + rest) % 256 = omega (arith, v-is) in
+        ap (λ (k : ℕ). pick (all_hex ds) (Some k) None) same
+      where
+        value : ◌≡◌ {A = Option ℕ} (Some (hex_byte a b)) (Some v) → v ≡ hex_byte a b
+        value e = cc
+    go true false e = absurd (nothing e)
+      where
+        nothing : ◌≡◌ {A = Option ℕ} None (Some v) → ⊥
+        nothing e = cc
+    go false z e = absurd (nothing e)
+      where
+        nothing : ◌≡◌ {A = Option ℕ} None (Some v) → ⊥
+        nothing e = cc
+
+-- two bytes that are not both digits end it
+pub sum-none : (x ds : List ℕ) (sum : ℕ) → length x ≡ 2 → byte_in x 0 ≡ None → sum_in sum (x ++ ds) ≡ None
+unfolding byte_in sum_in all_hex hex_bytes
+sum-none [] ds sum n e = absurd (omega (arith, n))
+sum-none (a ∷ []) ds sum n e = absurd (omega (arith, n))
+sum-none (a ∷ b ∷ c ∷ x) ds sum n e = absurd (omega (arith, n))
+sum-none (a ∷ b ∷ []) ds sum n e = go (ltb (hex_value a) 16) (ltb (hex_value b) 16) e
+  where
+    go : (y z : Bool) → pick (y && z) (Some (hex_byte a b)) None ≡ None
+        → ◌≡◌ {A = Option ℕ} (pick (y && (z && all_hex ds)) (Some ((sum + sum_of (hex_byte a b ∷ hex_bytes ds)) % 256)) None) None
+    go true true e = absurd (some e)
+      where
+        some : ◌≡◌ {A = Option ℕ} (Some (hex_byte a b)) None → ⊥
+        some e = cc
+    go true false e = refl
+    go false z e = refl
+
+-- where none is left, that is all
+pub sum-all : (ds : List ℕ) (sum : ℕ) → length ds < 2 → length ds % 2 ≡ 0 → sum < 256 → sum_in sum ds ≡ Some sum
+unfolding sum_in all_hex hex_bytes sum_of
+sum-all [] sum n e h = let same : (sum + 0) % 256 ≡ sum = omega (arith, h) in ap (λ (k : ℕ). Some k) same
+sum-all (a ∷ []) sum n e h = absurd (omega (arith, e))
+sum-all (a ∷ b ∷ ds) sum n e h = absurd (omega (arith, n))
+
+-- two digits store their byte
+pub put-more : (m : Buffers) (segment to : ℕ) (x ds : List ℕ) → length x ≡ 2 → to < 65536
+    → store_all m (stores_from 0 segment to (hex_bytes (x ++ ds)))
+    ≡ store_all (store_byte m false ((segment * 16 + to) % 1048576) (get_or (hex_bytes x) 0 0)) (stores_from 0 segment ((to + 1) % 65536) (hex_bytes ds))
+unfolding store_all stores_from hex_bytes
+put-more m segment to [] ds n h = absurd (omega (arith, n))
+put-more m segment to (a ∷ []) ds n h = absurd (omega (arith, n))
+put-more m segment to (a ∷ b ∷ c ∷ x) ds n h = absurd (omega (arith, n))
+put-more m segment to (a ∷ b ∷ []) ds n h =
+    let here : to % 65536 ≡ to = mod-eq_of_lt h in
+    rw (here, stores-wrap 0 segment (to + 1) ((to + 1) % 65536) (hex_bytes ds) (omega arith))
 
 -- with fewer than two digits left there is none
-pub put_last : (m : Buffers) (segment to at : ℕ) (ds : List ℕ) → length ds ≤ at + 1 → store_all m (stores_from 0 segment to (hex_bytes (drop at ds))) ≡ m
+pub put-last : (m : Buffers) (segment to : ℕ) (ds : List ℕ) → length ds < 2 → store_all m (stores_from 0 segment to (hex_bytes ds)) ≡ m
 unfolding store_all stores_from hex_bytes
-put_last m segment to at ds h = go (drop at ds) (omega (arith, length-drop at ds))
+put-last m segment to [] h = refl
+put-last m segment to (a ∷ []) h = refl
+put-last m segment to (a ∷ b ∷ ds) h = absurd (omega (arith, h))
+
+-- ---- frame by frame
+
+-- at the end of a text there is no line
+pub text-end : (t : List ℕ) (segment start line : ℕ) → length t ≡ 0 → file_of (hex_lines t) segment start line ≡ file 23 line 0 []
+unfolding file_of hex_lines
+text-end [] segment start line n = refl
+text-end (b ∷ bs) segment start line n = absurd (omega (arith, n))
+
+-- a first line that is none decides
+pub text-bad : (t : List ℕ) (segment start line : ℕ) → 0 < length t → (line_refusal (first_line t) ≡ 0 → ⊥)
+    → file_of (hex_lines t) segment start line ≡ file (line_refusal (first_line t)) (next_line line) 0 []
+text-bad t segment start line n ne = rw (lines-some t n) (file-bad (first_line t) (others_of (hex_lines t)) segment start line ne)
+
+-- a file with no number begins with a good record
+pub text-good : (t : List ℕ) (segment start line : ℕ) → 0 < length t → (file_of (hex_lines t) segment start line).number ≡ 0 → (line_refusal (first_line t) ≡ 0 → ⊥) → ⊥
+text-good t segment start line n z ne = ne (sym (ap (λ (f : File). f.number) (text-bad t segment start line n ne)) ∙ z)
+
+-- so does its frame
+pub framed-good : (t : List ℕ) (f : Frame) (rest : List ℕ) → Framed t f rest → (segment start line : ℕ) → (file_of (hex_lines t) segment start line).number ≡ 0 → line_refusal (frame_line f) ≡ 0
+framed-good t f rest g segment start line z = sym g.same ∙ go (ℕ_discrete (line_refusal (first_line t)) 0)
   where
-    go : (l : List ℕ) → length l ≤ 1 → store_all m (stores_from 0 segment to (hex_bytes l)) ≡ m
-    go [] h = refl
-    go (a ∷ []) h = refl
-    go (a ∷ b ∷ l) h = absurd (omega arith)
+    go : Dec (line_refusal (first_line t) ≡ 0) → line_refusal (first_line t) ≡ 0
+    go (yes e) = e
+    go (no ne) = absurd (text-good t segment start line (omega (arith, g.shorter)) z ne)
 
--- ---- the line at a place of the text
+-- and there is one
+pub framed-some : (t : List ℕ) (read : Result Frame LoadRefusal) (rest : List ℕ) (line segment : ℕ)
+    → MatchResult read (λ frame. (frame.line ≡ line) × Framed t frame rest) (λ refused. (refused.line ≡ line) × (0 < length t) × (reason_number refused.why ≡ line_refusal (first_line t)))
+    → (file_of (hex_lines t) segment 0 0).number ≡ 0 → ((x : Frame) → read ≡ Ok x → ⊥) → ⊥
+framed-some t (Ok frame) rest line segment h z ne = ne frame refl
+framed-some t (Err refused) rest line segment h z ne = text-good t segment 0 0 h.1 z (λ e. number-some refused.why (h.2 ∙ e))
 
--- a part from a place on is the rest of the text
-pub part-from : (t : List ℕ) (at : ℕ) → take (length t - at) (drop at t) ≡ drop at t
-part-from t at = take_all (length t - at) (drop at t) (omega (arith, length-drop at t))
+module _ (t : List ℕ) (f : Frame) (rest : List ℕ) (g : Framed t f rest) (e : line_refusal (frame_line f) ≡ 0) where
+  -- the end record ends it
+  pub frame-end : (segment start line : ℕ) → type_of (hex_bytes f.digits.now) ≡ 1 → file_of (hex_lines t) segment start line ≡ file 0 0 start []
+  frame-end segment start line k = rw (g.lines e) (file-end (frame_line f) (hex_lines rest) segment start line e k)
 
--- a file that stores nothing, judged
-pub judged-last : (m : Buffers) (before number line start : ℕ) (f : File) → f ≡ file number line start []
-    → ◌≡◌ {A = Judged} (record { number = number; line = line; start = start; beyond = before }) (judged_of m before f)
-unfolding judged_of beyond_line found_first
-judged-last m before number line start f e = rw e (λ i. record { number = number; line = line; start = start; beyond = same (ℕ_discrete before 0) i })
-  where
-    same : Dec (before ≡ 0) → before ≡ pick (eqb before 0) 0 before
-    same (yes z) = rw (eq-eqb before 0 z) z
-    same (no z) = rw (ne_eqb before 0 z)
+  module _ (k : type_of (hex_bytes f.digits.now) ≡ 1 → ⊥) where
+    -- a turn of the judging loop
+    pub frame-judged : (m : Buffers) (before : Option ℕ) (segment start line : ℕ)
+        → judged_of m before (file_of (hex_lines t) segment start line)
+        ≡ judged_of m (option_or before (pick (record_lent m segment (hex_bytes f.digits.now)) None (Some (next_line line))))
+        (file_of (hex_lines rest) (segment_after (hex_bytes f.digits.now) segment) (start_after (hex_bytes f.digits.now) start) (next_line line))
+    frame-judged m before segment start line =
+        rw (g.lines e, file-more (frame_line f) (hex_lines rest) segment start line e k)
+        (judged-record m before (next_line line) segment (frame_line f)
+        (file_of (hex_lines rest) (segment_after (hex_bytes f.digits.now) segment) (start_after (hex_bytes f.digits.now) start) (next_line line)) e (next-some line))
 
-module _ (t : List ℕ) (at : ℕ) (h : at < length t) where
-  -- what the code reads there
-  abbrev pub part_at : List ℕ
-  part_at = take (length t - at) (drop at t)
+    -- a turn of the storing loop
+    pub frame-stored : (m : Buffers) (segment : ℕ)
+        → store_all m (file_of (hex_lines t) segment 0 0).stores
+        ≡ store_all (store_all m (stores_of 0 segment (hex_bytes f.digits.now))) (file_of (hex_lines rest) (segment_after (hex_bytes f.digits.now) segment) 0 0).stores
+    frame-stored m segment = rw (g.lines e) (stored_more m (frame_line f) (hex_lines rest) segment e k)
 
-  here : drop at t ≡ part_at
-  here = sym (part-from t at)
+    pub frame-number : (segment : ℕ)
+        → (file_of (hex_lines t) segment 0 0).number ≡ (file_of (hex_lines rest) (segment_after (hex_bytes f.digits.now) segment) 0 0).number
+    frame-number segment = rw (g.lines e) (number_more (frame_line f) (hex_lines rest) segment e k)
 
-  here-lines : hex_lines (drop at t) ≡ first_line part_at ∷ others_of (hex_lines part_at)
-  here-lines =
-      ap hex_lines here ∙ lines-some part_at (subst (λ (l : List ℕ). 0 < length l) here (omega (arith, length-drop at t)))
-
-  module _ (segment start line : ℕ) where
-    pub here-bad : (line_refusal (first_line part_at) ≡ 0 → ⊥) → file_of (hex_lines (drop at t)) segment start line ≡ file (line_refusal (first_line part_at)) (next_line line) 0 []
-    here-bad ne = rw here-lines (file-bad (first_line part_at) (others_of (hex_lines part_at)) segment start line ne)
-
-    pub here_end : line_refusal (first_line part_at) ≡ 0 → type_of (record_of (first_line part_at)) ≡ 1 → file_of (hex_lines (drop at t)) segment start line ≡ file 0 0 start []
-    here_end e k = rw here-lines (file-end (first_line part_at) (others_of (hex_lines part_at)) segment start line e k)
-
-    -- a file with no number begins with a good record
-    pub here-good : (file_of (hex_lines (drop at t)) segment start line).number ≡ 0 → line_refusal (first_line part_at) ≡ 0
-    here-good z = go (ℕ_discrete (line_refusal (first_line part_at)) 0)
-      where
-        go : Dec (line_refusal (first_line part_at) ≡ 0) → line_refusal (first_line part_at) ≡ 0
-        go (yes e) = e
-        go (no e) = sym (ap (λ (f : File). f.number) (here-bad e)) ∙ z
-
-  module _ (e : line_refusal (first_line part_at) ≡ 0) (f : RecordFields) (g : Fielded part_at f) where
-    next-lines : hex_lines (drop at t) ≡ first_line part_at ∷ hex_lines (drop (at + f.next) t)
-    next-lines =
-        ap hex_lines here ∙ g.lines
-        ∙ ap (λ (l : List ℕ). first_line part_at ∷ hex_lines l) (ap (drop f.next) (sym here) ∙ drop-drop f.next at t)
-
-    -- the next line begins further on
-    pub here-next : at + f.next ≤ length t
-    here-next = omega (arith, g.inside, ap length (sym here), length-drop at t)
-
-    module _ (k : f.kind ≡ 1 → ⊥) where
-      -- a turn of the judging loop
-      pub here-judged : (m : Buffers) (before segment start line : ℕ)
-          → judged_of m before (file_of (hex_lines (drop at t)) segment start line)
-          ≡ judged_of m (found_first before (reach_of m (next_line line) segment f))
-          (file_of (hex_lines (drop (at + f.next) t)) (segment_after (record_of (first_line part_at)) segment) (start_after (record_of (first_line part_at)) start) (next_line line))
-      here-judged m before segment start line =
-          rw next-lines
-          (judged-more m before (first_line part_at) (hex_lines (drop (at + f.next) t)) segment start line f e (λ z. k (g.kind ∙ z)) g.kind g.offset g.size)
-
-      -- a turn of the storing loop
-      pub here-stored : (m : Buffers) (segment : ℕ)
-          → store_all m (file_of (hex_lines (drop at t)) segment 0 0).stores
-          ≡ store_all (store_all m (stores_of 0 segment (record_of (first_line part_at)))) (file_of (hex_lines (drop (at + f.next) t)) (segment_after (record_of (first_line part_at)) segment) 0 0).stores
-      here-stored m segment = rw next-lines (stored_more m (first_line part_at) (hex_lines (drop (at + f.next) t)) segment e (λ z. k (g.kind ∙ z)))
-
-      pub here-number : (segment : ℕ)
-          → (file_of (hex_lines (drop at t)) segment 0 0).number ≡ (file_of (hex_lines (drop (at + f.next) t)) (segment_after (record_of (first_line part_at)) segment) 0 0).number
-      here-number segment = rw next-lines (number_more (first_line part_at) (hex_lines (drop (at + f.next) t)) segment e (λ z. k (g.kind ∙ z)))
+-- a refusal by a line that is none is what the file is judged as
+pub judged-refused : (m : Buffers) (before : Option ℕ) (t : List ℕ) (segment start line : ℕ) (refused : LoadRefusal) → 0 < length t
+    → reason_number refused.why ≡ line_refusal (first_line t) → refused.line ≡ next_line line
+    → loading (reason_number refused.why) 0 refused.line m ≡ judged_of m before (file_of (hex_lines t) segment start line)
+judged-refused m before t segment start line refused n why at =
+    let ne : line_refusal (first_line t) ≡ 0 → ⊥ = λ e. number-some refused.why (why ∙ e) in
+    ap₂ (λ (k l : ℕ). loading k 0 l m) why at
+    ∙ sym (ap (judged_of m before) (text-bad t segment start line n ne) ∙ judged-bad m before (line_refusal (first_line t)) (next_line line) ne)

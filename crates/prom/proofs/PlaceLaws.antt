@@ -1,4 +1,4 @@
--- The laws of a record's places: how their offset wraps, when they are all lent, and which line reaches beyond memory first, record by record.
+-- The laws of a record's places: how their offset wraps, when they are all lent, which line reaches beyond memory first, record by record, and what the call makes of it.
 -- Assumes nothing.
 use Prim.Native.Nat.{ℕ, zero, suc, ◌+◌, ◌*◌, ◌%◌, ◌≤◌}
 use borrow.Author.Tests.{eq-eqb, ne_eqb}
@@ -12,17 +12,22 @@ use native.Mathlib.Nat.{zero-add, suc-add, add-zero, mod-eq_of_lt}
 use native.Mathlib.Omega.{arith}
 use Rattle.ground_rules.proofs.PlaceLaws.{index-reduced, lent-index}
 use Rattle.ground_rules.proofs.SpanLaws.{all_append}
-use Rattle.ground_rules.specs.Buffers.{Buffers, lent_at}
+use Rattle.ground_rules.specs.Buffers.{Buffers, lent_at, within_limits}
 use Rattle.ground_rules.specs.Places.{span, all_pass, all_lent}
 use Rattle.ground_rules.specs.Choice.{pick}
 use Rattle.ground_rules.specs.Sums.{address_of}
-use Rattle.prom_rules.specs.File.{FileStore, File, next_line, stores_from, stores_of, segment_after, start_after, file_of}
-use Rattle.prom_rules.specs.Load.{beyond_line}
+use Rattle.prom_rules.specs.File.{FileStore, File, file, stores_from, stores_of, storing}
+use Rattle.prom_rules.specs.Load.{Loading, loading, beyond_line, text_file, load_of}
 use Rattle.prom_rules.specs.Records.{record_of, hex_size, address_field, type_of, data_bytes, line_refusal}
-use Rattle.prom_rules.proofs.FileLaws.{next-some, file-more, data-length}
+use Rattle.prom_rules.proofs.FileLaws.{data-length}
+use Rattle.prom_rules.proofs.LoadLaws.{load-bad, load-beyond}
 use Rattle.prom_rules.proofs.RecordLaws.{good}
-use Rattle.prom.specs.Parts.{places_from, reach_of, found_first, judged_of}
-use Rattle.prom.specs.declared.RecordFields.{RecordFields}
+use Rattle.std.specs.Prelude.{Option, Some, None}
+use Rattle.std.specs.Option.{option_or}
+use Rattle.prom.specs.Parts.{places_from, record_lent}
+use Rattle.prom.specs.Refusals.{reason_number, placed_of, judged_of}
+use Rattle.prom.specs.declared.refusals.Reason.{Reason}
+use Rattle.prom.specs.declared.refusals.Reason.TheVariants.{BeyondMemory, LongMemory, NoRecord, WrongSum, WrongType, NoEnd}
 
 -- an offset counts mod 65,536
 pub places-wrap : (segment o p n : ℕ) → o % 65536 ≡ p % 65536 → places_from segment o n ≡ places_from segment p n
@@ -74,44 +79,92 @@ beyond-stores m line segment offset (v ∷ vs) ss = go (lent_at m false (address
     go true e = e
     go false e = refl
 
--- the first line that does, with one record more
-pub reach-first : (m : Buffers) (before line segment : ℕ) (bytes : List ℕ) (f : RecordFields) (ss : List FileStore) → (line ≡ 0 → ⊥)
-    → f.kind ≡ type_of bytes → f.offset ≡ address_field bytes → f.size ≡ length (data_bytes bytes)
-    → found_first before (beyond_line m (stores_of line segment bytes ++ ss)) ≡ found_first (found_first before (reach_of m line segment f)) (beyond_line m ss)
-unfolding stores_of reach_of found_first
-reach-first m before line segment bytes f ss ne kind offset size =
-    rw (kind, offset, size) (go (eqb (type_of bytes) 0) (ℕ_discrete before 0))
+-- so of a good record of a file
+record-beyond : (m : Buffers) (n segment : ℕ) (line : List ℕ) (ss : List FileStore) → line_refusal line ≡ 0
+    → beyond_line m (stores_of n segment (record_of line) ++ ss) ≡ pick (record_lent m segment (record_of line)) (beyond_line m ss) n
+unfolding stores_of record_lent
+record-beyond m n segment line ss e = go (eqb (type_of (record_of line)) 0)
   where
-    lent : Bool
-    lent = all_lent m (places_from segment (address_field bytes) (length (data_bytes bytes)))
+    bytes : List ℕ
+    bytes = record_of line
 
-    later : (x : Bool) (y : ℕ) → before ≡ 0 → pick (eqb before 0) (pick x y line) before ≡ pick (eqb (pick (eqb before 0) (pick x 0 line) before) 0) y (pick (eqb before 0) (pick x 0 line) before)
-    later true y e = rw (eq-eqb before 0 e)
-    later false y e = rw (eq-eqb before 0 e, ne_eqb line 0 ne)
+    go : (x : Bool)
+        → beyond_line m (pick x (stores_from n segment (address_field bytes) (data_bytes bytes)) [] ++ ss)
+        ≡ pick (pick x (all_lent m (places_from segment (address_field bytes) (hex_size bytes))) true) (beyond_line m ss) n
+    go true =
+        beyond-stores m n segment (address_field bytes) (data_bytes bytes) ss
+        ∙ ap (λ (k : ℕ). pick (all_lent m (places_from segment (address_field bytes) k)) (beyond_line m ss) n) (data-length line (good line e))
+    go false = refl
 
-    go : (x : Bool) → Dec (before ≡ 0)
-        → pick (eqb before 0) (beyond_line m (pick x (stores_from line segment (address_field bytes) (data_bytes bytes)) [] ++ ss)) before
-        ≡ pick (eqb (pick (eqb before 0) (pick x (pick lent 0 line) 0) before) 0) (beyond_line m ss) (pick (eqb before 0) (pick x (pick lent 0 line) 0) before)
-    go true (yes e) = rw (beyond-stores m line segment (address_field bytes) (data_bytes bytes) ss) (later lent (beyond_line m ss) e)
-    go false (yes e) = rw (eq-eqb before 0 e)
-    go true (no e) = simp (ne_eqb before 0 e)
-    go false (no e) = simp (ne_eqb before 0 e)
-
--- a judged file, one good record on
-pub judged-more : (m : Buffers) (before : ℕ) (this : List ℕ) (lines : List (List ℕ)) (segment start line : ℕ) (f : RecordFields) → line_refusal this ≡ 0
-    → (type_of (record_of this) ≡ 1 → ⊥) → f.kind ≡ type_of (record_of this) → f.offset ≡ address_field (record_of this) → f.size ≡ hex_size (record_of this)
-    → judged_of m before (file_of (this ∷ lines) segment start line)
-    ≡ judged_of m (found_first before (reach_of m (next_line line) segment f))
-    (file_of lines (segment_after (record_of this) segment) (start_after (record_of this) start) (next_line line))
+-- a file judged, one good record on
+pub judged-record : (m : Buffers) (before : Option ℕ) (n segment : ℕ) (line : List ℕ) (f : File) → line_refusal line ≡ 0 → (n ≡ 0 → ⊥)
+    → judged_of m before (storing (stores_of n segment (record_of line)) f)
+    ≡ judged_of m (option_or before (pick (record_lent m segment (record_of line)) None (Some n))) f
 unfolding judged_of
-judged-more m before this lines segment start line f e k kind offset size =
-    rw (file-more this lines segment start line e k)
-    (λ i. record {
-      number = rest.number;
-      line = rest.line;
-      start = rest.start;
-      beyond = reach-first m before (next_line line) segment (record_of this) f rest.stores (next-some line) kind offset (size ∙ sym (data-length this (good this e))) i;
-    })
+judged-record m (Some k) n segment line f e ne = refl
+judged-record m None n segment line f e ne = go (record_lent m segment (record_of line)) (record-beyond m n segment line f.stores e)
   where
-    rest : File
-    rest = file_of lines (segment_after (record_of this) segment) (start_after (record_of this) start) (next_line line)
+    before : ℕ
+    before = beyond_line m (stores_of n segment (record_of line) ++ f.stores)
+
+    go : (x : Bool) → before ≡ pick x (beyond_line m f.stores) n
+        → pick (eqb f.number 0) (pick (eqb before 0) (loading 0 f.start 0 m) (loading 2 0 before m)) (loading f.number 0 f.line m)
+        ≡ pick (eqb f.number 0) (placed_of m (pick x None (Some n)) f) (loading f.number 0 f.line m)
+    go true b = rw b
+    go false b = rw (b, ne_eqb n 0 ne)
+
+-- a bad file, and one that ends
+pub judged-bad : (m : Buffers) (before : Option ℕ) (number line : ℕ) → (number ≡ 0 → ⊥) → judged_of m before (file number line 0 []) ≡ loading number 0 line m
+unfolding judged_of
+judged-bad m before number line ne = rw (ne_eqb number 0 ne)
+
+pub judged-end : (m : Buffers) (start : ℕ) → judged_of m None (file 0 0 start []) ≡ loading 0 start 0 m
+unfolding judged_of beyond_line
+judged-end m start = refl
+
+pub judged-beyond : (m : Buffers) (start line : ℕ) → judged_of m (Some line) (file 0 0 start []) ≡ loading 2 0 line m
+unfolding judged_of
+judged-beyond m start line = refl
+
+-- ---- the call
+
+-- no reason has the number 0
+pub number-some : (why : Reason) → reason_number why ≡ 0 → ⊥
+number-some BeyondMemory e = omega (arith, e)
+number-some LongMemory e = omega (arith, e)
+number-some NoRecord e = omega (arith, e)
+number-some WrongSum e = omega (arith, e)
+number-some WrongType e = omega (arith, e)
+number-some NoEnd e = omega (arith, e)
+
+-- the ways of a file that is judged: bad, beyond memory, or to be stored
+pub judged-by : (P : Loading → Type 0) (m : Buffers) (f : File)
+    → ((f.number ≡ 0 → ⊥) → P (loading f.number 0 f.line m))
+    → (f.number ≡ 0 → (beyond_line m f.stores ≡ 0 → ⊥) → P (loading 2 0 (beyond_line m f.stores) m))
+    → (f.number ≡ 0 → beyond_line m f.stores ≡ 0 → P (loading 0 f.start 0 m))
+    → P (judged_of m None f)
+unfolding judged_of
+judged-by P m f bad beyond done = go (ℕ_discrete f.number 0) (ℕ_discrete (beyond_line m f.stores) 0)
+  where
+    go : Dec (f.number ≡ 0) → Dec (beyond_line m f.stores ≡ 0)
+        → P (pick (eqb f.number 0) (pick (eqb (beyond_line m f.stores) 0) (loading 0 f.start 0 m) (loading 2 0 (beyond_line m f.stores) m)) (loading f.number 0 f.line m))
+    go (no e) d = rw (ne_eqb f.number 0 e) (bad e)
+    go (yes e) (no b) = rw (eq-eqb f.number 0 e, ne_eqb (beyond_line m f.stores) 0 b) (beyond e b)
+    go (yes e) (yes b) = rw (eq-eqb f.number 0 e, eq-eqb (beyond_line m f.stores) 0 b) (done e b)
+
+-- a file judged good has no number, and nothing beyond memory
+pub judged-good : (m : Buffers) (f : File) (start : ℕ) → loading 0 start 0 m ≡ judged_of m None f → (f.number ≡ 0) × (beyond_line m f.stores ≡ 0) × (start ≡ f.start)
+judged-good m f start =
+    judged-by (λ (l : Loading). loading 0 start 0 m ≡ l → (f.number ≡ 0) × (beyond_line m f.stores ≡ 0) × (start ≡ f.start)) m f
+    (λ ne e. absurd (ne (sym (ap (λ (l : Loading). l.number) e))))
+    (λ z ne e. absurd (let two : ◌≡◌ {A = ℕ} 0 2 = ap (λ (l : Loading). l.number) e in omega (arith, two)))
+    (λ z b e. (z, b, ap (λ (l : Loading). l.start) e))
+
+-- a call that refuses leaves what the file is judged as
+pub load-refused : (t : List ℕ) (m : Buffers) (why : Reason) (line : ℕ) → within_limits m ≡ true → loading (reason_number why) 0 line m ≡ judged_of m None (text_file t)
+    → loading (reason_number why) 0 line m ≡ load_of t m
+load-refused t m why line h =
+    judged-by (λ (l : Loading). loading (reason_number why) 0 line m ≡ l → loading (reason_number why) 0 line m ≡ load_of t m) m (text_file t)
+    (λ ne e. e ∙ sym (load-bad t m h ne))
+    (λ z ne e. e ∙ sym (load-beyond t m h z ne))
+    (λ z b e. absurd (number-some why (ap (λ (l : Loading). l.number) e)))

@@ -1,5 +1,6 @@
 -- An instruction with an immediate to a register: from its bytes at TP to the end of its step.
 -- Assumes nothing.
+use Rattle.std.proofs.Common.{Ok}
 use Prim.Native.Nat.{ℕ, ◌+◌, ◌-◌, ◌%◌, ◌<◌}
 use borrow.Author.Tests.{eq-eqb}
 use lib.ListN.{length, get_or}
@@ -10,7 +11,6 @@ use native.Mathlib.Nat.{add-zero, add_assoc}
 use native.Mathlib.Omega.{arith}
 use Rattle.instruction_rules.specs.Lengths.{data_length, displacement_length, length_of}
 use Rattle.instruction_rules.specs.Reading.{decode_of}
-use Rattle.instruction_rules.specs.declared.Decoded.TheVariants.{Instruction}
 use Rattle.instruction_rules.specs.declared.Shape.TheVariants.{RegisterImmediate}
 use Rattle.instruction_rules.specs.declared.Work.{Work}
 use Rattle.instruction_rules.specs.RegisterForms.{register_written, register_immediate_deed}
@@ -100,7 +100,7 @@ pair-there true n h = omega arith
 
 -- it is done: the channel gets the immediate, no byte changes
 pub immediate-executed : (work : Work) (r : ℕ) (wide : Bool) (m : Buffers) (c : Channel) (code : List ℕ) → Stand m c.tp code → 1 + size_of wide < length code
-    → decode_of (get_or code 0 0) (get_or code 1 0) ≡ Instruction (RegisterImmediate work r wide) → (busy : ℕ)
+    → decode_of (get_or code 0 0) (get_or code 1 0) ≡ Ok (RegisterImmediate work r wide) → (busy : ℕ)
     → execute_of c busy m ≡ executed 0 (immediate_done work r wide c code) m
 unfolding changed deed_of performed register_immediate_deed places_of later_bytes span all_pass
 immediate-executed work r wide m c code there whole e busy =
@@ -119,7 +119,7 @@ turn-executes b s m lines t x = rw (eq-eqb (entry_number s m lines) 0 t.entered,
 
 module _ (b : Bool) (s : State) (m : Buffers) (lines : ℕ) {code : List ℕ} (work : Work) (r : ℕ) (wide : Bool) where
   -- the step is done, and the channel is as the instruction leaves it
-  pub immediate-step : 1 + size_of wide < length code → decode_of (get_or code 0 0) (get_or code 1 0) ≡ Instruction (RegisterImmediate work r wide)
+  pub immediate-step : 1 + size_of wide < length code → decode_of (get_or code 0 0) (get_or code 1 0) ≡ Ok (RegisterImmediate work r wide)
       → Executes b s m lines code
       → ((step_of s m lines).number ≡ 0) × (channel_of (step_of s m lines).state b ≡ immediate_done work r wide (channel_of s b) code)
   unfolding instruction_step settled_step

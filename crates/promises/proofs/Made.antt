@@ -1,5 +1,6 @@
 -- Every state that calls make from a fresh one or from a power-up is sound, powered up and agrees, so none of them is ever refused by 10, 13 or 14; and 3 and 4 of an instruction by the rows of the table.
 -- Assumes nothing.
+use Rattle.std.proofs.Common.{Ok, Err}
 use lib.Dec.{eqb}
 use borrow.Author.Tests.{eqb-true, eqb-false}
 use mathlib.Core.Bool.{Bool, true, false}
@@ -12,9 +13,9 @@ use Rattle.attention_rules.proofs.Outcomes.{refused-nothing, shared_kept}
 use Rattle.attention_rules.proofs.SoundLaws.{attention-sound, attention-agree}
 use Rattle.attention_rules.specs.Attention.{attention_of}
 use Rattle.instruction_rules.proofs.Outcomes.{three-exactly, four-exactly}
-use Rattle.instruction_rules.specs.Reading.{number_of}
-use Rattle.instruction_rules.specs.declared.Decoded.{Decoded}
-use Rattle.instruction_rules.specs.declared.Decoded.TheVariants.{Instruction, NoInstruction, ControlUsed}
+use Rattle.instruction_rules.specs.Reading.{decoded_number}
+use Rattle.instruction_rules.specs.Decoded.{Decoded}
+use Rattle.instruction_rules.specs.declared.Unread.TheVariants.{NoInstruction, ControlUsed}
 use Rattle.instruction_rules.specs.Conditions.{NoCode, ControlTouched}
 use Rattle.instruction_rules.specs.Execute.{decoded_at}
 use Rattle.instruction_rules.specs.Operands.{byte_here}
@@ -93,15 +94,15 @@ made-steps {s} made m lines = step-ready s m lines (made-powered made, made-agre
 -- ---- 3 and 4 in the rows' own words
 
 -- an answer is no instruction, or a use of CC, by its number
-none-by : (d : Decoded) → (d ≡ NoInstruction) ↔ (number_of d ≡ 3)
-none-by (Instruction s) = (λ e. ap number_of e, λ e. absurd (eqb-false 0 3 refl e))
-none-by NoInstruction = (λ e. refl, λ e. refl)
-none-by ControlUsed = (λ e. ap number_of e, λ e. absurd (eqb-false 4 3 refl e))
+none-by : (d : Decoded) → (d ≡ Err NoInstruction) ↔ (decoded_number d ≡ 3)
+none-by (Ok s) = (λ e. ap decoded_number e, λ e. absurd (eqb-false 0 3 refl e))
+none-by (Err NoInstruction) = (λ e. refl, λ e. refl)
+none-by (Err ControlUsed) = (λ e. ap decoded_number e, λ e. absurd (eqb-false 4 3 refl e))
 
-used-by : (d : Decoded) → (d ≡ ControlUsed) ↔ (number_of d ≡ 4)
-used-by (Instruction s) = (λ e. ap number_of e, λ e. absurd (eqb-false 0 4 refl e))
-used-by NoInstruction = (λ e. ap number_of e, λ e. absurd (eqb-false 3 4 refl e))
-used-by ControlUsed = (λ e. refl, λ e. refl)
+used-by : (d : Decoded) → (d ≡ Err ControlUsed) ↔ (decoded_number d ≡ 4)
+used-by (Ok s) = (λ e. ap decoded_number e, λ e. absurd (eqb-false 0 4 refl e))
+used-by (Err NoInstruction) = (λ e. ap decoded_number e, λ e. absurd (eqb-false 3 4 refl e))
+used-by (Err ControlUsed) = (λ e. refl, λ e. refl)
 
 module _ (m : Buffers) (c : Channel) where
   -- the condition of 3 in the chain of an instruction is that no row is met

@@ -1,5 +1,6 @@
 -- Pointers that a step stores and a later step loads: MOVP M,P and CALL, then MOVP P,M.
 -- Assumes nothing.
+use Rattle.std.proofs.Common.{Ok, Err}
 use Prim.Native.Nat.{ℕ, zero, suc, ◌+◌, ◌<◌, ◌≤◌}
 use borrow.Author.Tests.{ltb-true, le-ltb, eq-eqb, ne_eqb}
 use lib.Dec.{ltb, eqb, lit<, eqb-suc-zero}
@@ -15,8 +16,8 @@ use Rattle.instruction_rules.specs.Pairs.{pair_of}
 use Rattle.instruction_rules.specs.Reading.{fits, lookup, decode_of}
 use Rattle.instruction_rules.specs.Rows.{is_control}
 use Rattle.instruction_rules.specs.Table.{SummaryRow, table}
-use Rattle.instruction_rules.specs.declared.Decoded.{Decoded}
-use Rattle.instruction_rules.specs.declared.Decoded.TheVariants.{Instruction, NoInstruction, ControlUsed}
+use Rattle.instruction_rules.specs.Decoded.{Decoded}
+use Rattle.instruction_rules.specs.declared.Unread.TheVariants.{NoInstruction, ControlUsed}
 use Rattle.instruction_rules.specs.declared.Memory.{Memory}
 use Rattle.instruction_rules.specs.declared.Shape.{Shape}
 use Rattle.instruction_rules.specs.declared.Shape.TheVariants.{Nop, Sintr, Xfer, Wid, Hlt, Lpdi, RegisterImmediate, Register, JumpRegister, RegisterMemory, MemoryRegister, MemoryImmediate, MemoryAlone, JumpMemory, Lpd, MovpLoad, MovpStore, MovMemory, Tsl, Call, JumpMasked, JumpBit, Bit}
@@ -142,9 +143,9 @@ movp_register (JumpBit e b o d) = 0
 movp_register (Bit e b o) = 0
 
 abbrev register_in : Decoded → ℕ
-register_in (Instruction shape) = movp_register shape
-register_in NoInstruction = 0
-register_in ControlUsed = 0
+register_in (Ok shape) = movp_register shape
+register_in (Err NoInstruction) = 0
+register_in (Err ControlUsed) = 0
 
 -- PPP names GA, GB, GC or TP
 abbrev is_pointer : ℕ → Bool
@@ -176,7 +177,7 @@ looked-up (r ∷ rs) p h =
     here = is_pointer (movp_register (r.shape p))
 
     chosen : (b control : Bool) → here || not b ≡ true → is_pointer (register_in (lookup rs p)) ≡ true
-        → is_pointer (register_in (pick b (pick control ControlUsed (Instruction (r.shape p))) (lookup rs p))) ≡ true
+        → is_pointer (register_in (pick b (pick control (Err ControlUsed) (Ok (r.shape p))) (lookup rs p))) ≡ true
     chosen true true e rest = refl
     chosen true false e rest = sym (or-false here) ∙ e
     chosen false control e rest = rest

@@ -1,5 +1,6 @@
 -- Two programs in numbers that take a pointer to memory and back, so that what `PointersKept` asks of steps can be met.
 -- Assumes nothing.
+use Rattle.std.proofs.Common.{None}
 use Prim.Native.Nat.{ℕ}
 use mathlib.Core.Bool.{Bool, true, false}
 use mathlib.Core.List.{List, [], ◌∷◌, ◌++◌}
@@ -22,7 +23,6 @@ use Rattle.ground_rules.specs.Stages.{stages_number}
 use Rattle.ground_rules.specs.Registers.{by_rrr, register_of, tag_of, with_register, base_of}
 use Rattle.ground_rules.specs.States.{fresh_state, idle_channel, channel_of, with_channel, with_last, sound_channel, sound, is_running, block_of, busy_in, channel_number, fields_agree, agree}
 use Rattle.ground_rules.specs.declared.Channel.{Channel}
-use Rattle.ground_rules.specs.declared.Held.TheVariants.{NoByte}
 use Rattle.ground_rules.specs.declared.Mode.TheVariants.{Running}
 use Rattle.ground_rules.proofs.SpanLaws.{span-at}
 use Rattle.ground_rules.specs.Buffers.{buffers, space_of, limit_of, index_of, lent_at, touchable_at, beyond_in, byte_at, store_byte, within_limits}
@@ -56,7 +56,7 @@ running =
       mode = Running;
       armed = false;
       fields = split 0;
-      held = NoByte;
+      held = None;
     }
 
 -- the operand [GA], of W 1 or 0

@@ -1,12 +1,11 @@
 -- Demand 1: every call ends with an answer, each number is given exactly under its own condition, and a refused call changes nothing.
 -- That every call has an answer for whatever it is given, and that nobody has to look at the arguments first, is how the calls are said: each
 -- call is a function of what it is given, so it has an answer for every state, every memory and every number, and no field below asks anything of them.
-use Rattle.std.specs.Prelude.{Bool, true, false, [], ◌∷◌, ◌↔◌, ◌≡◌, ℕ, ◌+◌, ◌*◌, ◌/◌, ◌%◌, ◌<◌, ◌≤◌}
+use Rattle.std.specs.Prelude.{Bool, true, false, [], ◌∷◌, ◌↔◌, ◌≡◌, ℕ, ◌+◌, ◌*◌, ◌/◌, ◌%◌, ◌<◌, ◌≤◌, None}
 use Rattle.ground_rules.specs.Buffers.{Buffers}
 use Rattle.ground_rules.specs.Values.{pointer}
 use Rattle.ground_rules.specs.Cc.{split}
 use Rattle.ground_rules.specs.declared.Channel.{Channel}
-use Rattle.ground_rules.specs.declared.Held.TheVariants.{NoByte}
 use Rattle.ground_rules.specs.declared.Mode.TheVariants.{Idle}
 use Rattle.ground_rules.specs.declared.State.{State}
 use Rattle.ground_rules.specs.Conditions.{check, Given}
@@ -36,7 +35,7 @@ pub record Blank (c : Channel) : Type 0 where
   -- the fields are those of CC 0
   pub fields : c.fields ≡ split 0
   -- nothing is held
-  pub held : c.held ≡ NoByte
+  pub held : c.held ≡ None
 
 -- a fresh state of any CP
 pub record FreshAnswers (cp : ℕ) : Type 0 where

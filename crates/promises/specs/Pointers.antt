@@ -1,5 +1,5 @@
 -- Demand 2, no pointer loses anything in its three stored bytes: as numbers, through memory, by MOVP and CALL, by suspend and resume.
-use Rattle.std.specs.Prelude.{Bool, true, false, ◌≡◌, ℕ, ◌+◌, ◌*◌, ◌/◌, ◌<◌}
+use Rattle.std.specs.Prelude.{Bool, true, false, ◌≡◌, ℕ, ◌+◌, ◌*◌, ◌/◌, ◌<◌, Ok}
 use Rattle.ground_rules.specs.Stored.{stored_low, stored_middle, stored_high, stored_address, stored_tag}
 use Rattle.ground_rules.specs.declared.Pointer.{Pointer}
 use Rattle.ground_rules.specs.Buffers.{Buffers, byte_at}
@@ -14,7 +14,6 @@ use Rattle.attention_rules.specs.Attention.{order_to, attention_of}
 use Rattle.attention_rules.specs.Commands.{ordered}
 use Rattle.ground_rules.specs.Updates.{with_control}
 use Rattle.attention_rules.specs.Pauses.{Pause}
-use Rattle.instruction_rules.specs.declared.Decoded.TheVariants.{Instruction}
 use Rattle.instruction_rules.specs.declared.Memory.{Memory}
 use Rattle.instruction_rules.specs.declared.Shape.{Shape}
 use Rattle.instruction_rules.specs.declared.Shape.TheVariants.{MovpLoad, MovpStore, Call}
@@ -62,7 +61,7 @@ pub record Executes (k : StepCall) (shape : Shape) : Type 0 where
   pub done : (left_by k).number ≡ 0
   pub chosen : choice_of k.state k.lines ≡ Steps k.second
   pub program : transferring (channel_on k).psw ≡ false
-  pub reads : decoded_at k.memory (channel_on k).tp ≡ Instruction shape
+  pub reads : decoded_at k.memory (channel_on k).tp ≡ Ok shape
 
 -- the channel as the instruction finds it, with TP past it
 abbrev pub found : StepCall → Shape → Channel

@@ -1,19 +1,20 @@
 -- The equations of the public calls' contracts, and that only one outcome meets each; the contracts themselves are held to it in the calls' own crates.
-use Rattle.std.specs.Prelude.{List, ◌≡◌, ℕ}
+use Rattle.std.specs.Prelude.{List, ◌≡◌, ℕ, Result}
 use Rattle.ground_rules.specs.Buffers.{Buffers, buffers}
-use Rattle.ground_rules.specs.Outcomes.{outcome}
+use Rattle.ground_rules.specs.Refusals.{outcome_by, answer_count}
 use Rattle.ground_rules.specs.States.{reset_state, fresh_of}
 use Rattle.ground_rules.specs.declared.Answer.{Answer}
 use Rattle.ground_rules.specs.declared.Made.{Made}
+use Rattle.ground_rules.specs.declared.Refusal.{Refusal}
 use Rattle.ground_rules.specs.declared.State.{State}
 use Rattle.attention_rules.specs.Attention.{attention_of, attention_count}
 use Rattle.attention_rules.specs.Power.{power_up_of, power_count}
 use Rattle.turn_rules.specs.Choosing.{choice_of}
-use Rattle.turn_rules.specs.Step.{stepped, step_of}
+use Rattle.turn_rules.specs.Step.{step_of, stepped_by, stepped_count}
 use Rattle.turn_rules.specs.Touched.{step_count}
 use Rattle.turn_rules.specs.declared.Choice.{Choice}
 use Rattle.turn_rules.specs.declared.Stepped.{Stepped}
-use Rattle.run_rules.specs.Run.{ran, run_of, answer_of, called}
+use Rattle.run_rules.specs.Run.{ran, run_of, answer_of, called, stop_number}
 use Rattle.run_rules.specs.declared.Ran.{Ran}
 use Rattle.run_rules.specs.Board.{board_run_of}
 
@@ -25,27 +26,27 @@ FreshMeets cp r = r ≡ fresh_of cp
 abbrev pub ResetMeets : State → Type 0
 ResetMeets r = r ≡ reset_state
 
--- `power::power_up`: the answer r, and both buffers as they are left
-abbrev pub PowerMeets : State → Buffers → Answer → List ℕ → List ℕ → Type 0
-PowerMeets s m r sys io = (outcome r.number r.state (buffers sys io) ≡ power_up_of s m) × (r.count ≡ power_count m)
+-- `power::power_up`: the answer r, and both buffers as they are left, whatever state it is called on
+abbrev pub PowerMeets : Buffers → Result Answer Refusal → List ℕ → List ℕ → Type 0
+PowerMeets m r sys io = ((s : State) → outcome_by s r (buffers sys io) ≡ power_up_of s m) × (answer_count r ≡ power_count m)
 
 -- `attention::attention`: the answer r, and both buffers as they are left
-abbrev pub AttentionMeets : State → Buffers → ℕ → Answer → List ℕ → List ℕ → Type 0
+abbrev pub AttentionMeets : State → Buffers → ℕ → Result Answer Refusal → List ℕ → List ℕ → Type 0
 AttentionMeets s m channel r sys io =
-    (outcome r.number r.state (buffers sys io) ≡ attention_of s m channel) × (r.count ≡ attention_count s m channel)
+    (outcome_by s r (buffers sys io) ≡ attention_of s m channel) × (answer_count r ≡ attention_count s m channel)
 
 -- `step::choose`: who steps
 abbrev pub ChooseMeets : State → ℕ → Choice → Type 0
 ChooseMeets s lines r = r ≡ choice_of s lines
 
 -- `step::step`: the answer r, and both buffers as they are left
-abbrev pub StepMeets : State → Buffers → ℕ → Stepped → List ℕ → List ℕ → Type 0
+abbrev pub StepMeets : State → Buffers → ℕ → Result Stepped Refusal → List ℕ → List ℕ → Type 0
 StepMeets s m lines r sys io =
-    (stepped r.number r.state (buffers sys io) r.channel r.kind ≡ step_of s m lines) × (r.count ≡ step_count s m lines)
+    (stepped_by s r (buffers sys io) ≡ step_of s m lines) × (stepped_count r ≡ step_count s m lines)
 
 -- `panel::run`: the answer r, and both buffers as they are left
 abbrev pub RunMeets : Buffers → ℕ → ℕ → ℕ → ℕ → Ran → List ℕ → List ℕ → Type 0
-RunMeets m cp channel lines limit r sys io = ran r.number r.steps (buffers sys io) ≡ run_of m cp channel lines limit
+RunMeets m cp channel lines limit r sys io = ran (stop_number r.stopped) r.steps (buffers sys io) ≡ run_of m cp channel lines limit
 
 -- `iop89_run`, the call from C: the answer r, and both buffers as they are left
 abbrev pub CallMeets : Buffers → ℕ → ℕ → ℕ → ℕ → ℕ → List ℕ → List ℕ → Type 0
@@ -54,7 +55,7 @@ CallMeets m cp channel lines limit r sys io =
 
 -- `panel::boards::board_run` and `iop89_board`: the same of a run that reset and power-up begin
 abbrev pub BoardMeets : Buffers → ℕ → ℕ → ℕ → Ran → List ℕ → List ℕ → Type 0
-BoardMeets m channel lines limit r sys io = ran r.number r.steps (buffers sys io) ≡ board_run_of m channel lines limit
+BoardMeets m channel lines limit r sys io = ran (stop_number r.stopped) r.steps (buffers sys io) ≡ board_run_of m channel lines limit
 
 abbrev pub BoardCallMeets : Buffers → ℕ → ℕ → ℕ → ℕ → List ℕ → List ℕ → Type 0
 BoardCallMeets m channel lines limit r sys io =
@@ -70,12 +71,12 @@ pub record Same {A : Type 0} (r r' : A) (sys sys' io io' : List ℕ) : Type 0 wh
 pub record OneOutcome : Type 0 where
   pub fresh : (cp : ℕ) (r r' : Made) → FreshMeets cp r → FreshMeets cp r' → r ≡ r'
   pub reset : (r r' : State) → ResetMeets r → ResetMeets r' → r ≡ r'
-  pub power : (s : State) (m : Buffers) (r r' : Answer) (sys sys' io io' : List ℕ)
-      → PowerMeets s m r sys io → PowerMeets s m r' sys' io' → Same r r' sys sys' io io'
-  pub attention : (s : State) (m : Buffers) (channel : ℕ) (r r' : Answer) (sys sys' io io' : List ℕ)
+  pub power : (m : Buffers) (r r' : Result Answer Refusal) (sys sys' io io' : List ℕ)
+      → PowerMeets m r sys io → PowerMeets m r' sys' io' → Same r r' sys sys' io io'
+  pub attention : (s : State) (m : Buffers) (channel : ℕ) (r r' : Result Answer Refusal) (sys sys' io io' : List ℕ)
       → AttentionMeets s m channel r sys io → AttentionMeets s m channel r' sys' io' → Same r r' sys sys' io io'
   pub choose : (s : State) (lines : ℕ) (r r' : Choice) → ChooseMeets s lines r → ChooseMeets s lines r' → r ≡ r'
-  pub step : (s : State) (m : Buffers) (lines : ℕ) (r r' : Stepped) (sys sys' io io' : List ℕ)
+  pub step : (s : State) (m : Buffers) (lines : ℕ) (r r' : Result Stepped Refusal) (sys sys' io io' : List ℕ)
       → StepMeets s m lines r sys io → StepMeets s m lines r' sys' io' → Same r r' sys sys' io io'
   pub run : (m : Buffers) (cp channel lines limit : ℕ) (r r' : Ran) (sys sys' io io' : List ℕ)
       → RunMeets m cp channel lines limit r sys io → RunMeets m cp channel lines limit r' sys' io' → Same r r' sys sys' io io'

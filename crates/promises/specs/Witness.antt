@@ -1,11 +1,10 @@
 -- Two transfers that meet every premise of demand 3, in numbers: five bytes from system address 0, by bytes to I/O address 16 and by words to
 -- system address 8; and a program that meets those of the cases with an instruction.
-use Rattle.std.specs.Prelude.{Bool, true, false, List, [], ◌∷◌, ◌++◌, ℕ, replicate}
+use Rattle.std.specs.Prelude.{Bool, true, false, List, [], ◌∷◌, ◌++◌, ℕ, replicate, None}
 use Rattle.ground_rules.specs.declared.Pointer.{Pointer}
 use Rattle.ground_rules.specs.Values.{pointer}
 use Rattle.ground_rules.specs.Buffers.{Buffers, buffers}
 use Rattle.ground_rules.specs.declared.Channel.{Channel}
-use Rattle.ground_rules.specs.declared.Held.TheVariants.{NoByte}
 use Rattle.ground_rules.specs.declared.Mode.TheVariants.{Running}
 use Rattle.ground_rules.specs.declared.State.{State}
 use Rattle.ground_rules.specs.Cc.{split}
@@ -28,7 +27,7 @@ running_with ga gb tp bc cc psw =
       mode = Running;
       armed = false;
       fields = split cc;
-      held = NoByte;
+      held = None;
     }
 
 -- both widths 8 (PSW 44h: TB and XF), from GA to GB, CC C010h: both sides move on, TBC 10 (offset 4)

@@ -1,12 +1,13 @@
 -- Every instruction that has a line has an entry that the assembler takes for its word and places, with the fields of its pair.
 -- Assumes nothing.
+use Rattle.std.proofs.Common.{Ok, Err}
 use mathlib.Core.{Path.◌≡◌, Path.refl, Path.sym, Path.ap, Path.subst, Path.◌∙◌, Bool.Bool, Bool.true, Bool.false, Bool.not, Bool.◌&&◌, Bool.◌||◌, Bool.false≢true, List.List, List.[], List.◌∷◌}
 use Prim.Native.Nat.{ℕ, zero, suc, ◌<◌}
 use native.Mathlib.Omega.{arith}
 use lib.{Dec.eqb, Dec.ltb, ListN.get_or}
 use borrow.Author.Tests.{not-true, eqb-true, eqb-false}
 use Rattle.ground_rules.specs.{Bits.bit_of, Bits.field_of, Choice.pick}
-use Rattle.instruction_rules.specs.{declared.Memory.Memory, declared.Pair.Pair, declared.Shape.Shape, declared.Decoded.TheVariants.Instruction, declared.Decoded.TheVariants.ControlUsed, Pairs.meets, Pairs.pair_of, Rows.is_control, Table.SummaryRow, Table.table, Reading.fits, Reading.lookup, Reading.decode_of}
+use Rattle.instruction_rules.specs.{declared.Memory.Memory, declared.Pair.Pair, declared.Shape.Shape, declared.Unread.TheVariants.ControlUsed, Pairs.meets, Pairs.pair_of, Rows.is_control, Table.SummaryRow, Table.table, Reading.fits, Reading.lookup, Reading.decode_of}
 use Rattle.listing_rules.specs.{declared.Slot.Slot, declared.Slot.TheVariants.Empty, declared.Slot.TheVariants.Name, declared.Slot.TheVariants.Place, declared.Slot.TheVariants.Number, declared.Slot.TheVariants.Target, declared.Slot.TheVariants.Digit, Characters.ascii, Characters.same_text, Mnemonics.is_jump, Mnemonics.is_listed, Mnemonics.mnemonic_of, Forms.Operand, Forms.after_offset, Forms.filled, Forms.slots_of, Back.digits_in, Back.rrr_in, Entries.OperandKind}
 use Rattle.listing_rules.specs.{Entries.Entry, Entries.entries, Entries.OperandKind.'R, Entries.OperandKind.'G, Entries.OperandKind.'P, Entries.OperandKind.'M, Entries.OperandKind.'byte, Entries.OperandKind.'word, Entries.OperandKind.'bit, Entries.OperandKind.'width, Entries.OperandKind.'short, Entries.OperandKind.'long, Back.mm_in, Back.aa_in, Forms.Operand.none, Forms.Operand.register, Forms.Operand.memory, Forms.Operand.number, Forms.Operand.digit}
 use Rattle.listing_rules.proofs.{SpellingLaws.present, BackLaws.fill, BackLaws.listed, BackLaws.is_move, EntryLaws.fitting}
@@ -208,12 +209,12 @@ row-regular r p to l f c hw hd hr h =
     let own = subst (λ (o : ℕ). not (meets r.rrr p.w p.rrr && (meets r.w p.w p.w && (meets r.dd p.w p.dd && (not (r.control && is_control p) && is_listed (r.shape (q o)))))) || regular (q o) (r.shape (q o)) to ≡ true) (sym k.opcode) here in
     regularly p (r.shape p) to (rw (k.rrr, k.w, k.dd, c, l) at own)
 
-rows-regular : (rs : List SummaryRow) (p : Pair) (s : Shape) (to : Memory) → is_listed s ≡ true → p.w < 2 → p.dd < 4 → p.rrr < 8 → rows_regular p.aa p.mm to rs ≡ true → lookup rs p ≡ Instruction s → Regular p s to
+rows-regular : (rs : List SummaryRow) (p : Pair) (s : Shape) (to : Memory) → is_listed s ≡ true → p.w < 2 → p.dd < 4 → p.rrr < 8 → rows_regular p.aa p.mm to rs ≡ true → lookup rs p ≡ Ok s → Regular p s to
 unfolding lookup rows_regular
 rows-regular [] p s to l hw hd hr h e = let z : ◌≡◌ {A = ℕ} 0 1 = cc in absurd (eqb-false 0 1 refl z)
 rows-regular (r ∷ rs) p s to l hw hd hr h e = go (fits r p) refl (r.control && is_control p) refl e (rows-regular rs p s to l hw hd hr (both_right (row_regular p.aa p.mm to r) _ h))
   where
-    go : (f : Bool) → fits r p ≡ f → (c : Bool) → r.control && is_control p ≡ c → pick f (pick c ControlUsed (Instruction (r.shape p))) (lookup rs p) ≡ Instruction s → (lookup rs p ≡ Instruction s → Regular p s to) → Regular p s to
+    go : (f : Bool) → fits r p ≡ f → (c : Bool) → r.control && is_control p ≡ c → pick f (pick c (Err ControlUsed) (Ok (r.shape p))) (lookup rs p) ≡ Ok s → (lookup rs p ≡ Ok s → Regular p s to) → Regular p s to
     go true f true c t later = let z : ◌≡◌ {A = ℕ} 0 1 = cc in absurd (eqb-false 0 1 refl z)
     go true f false c t later =
         let shape : r.shape p ≡ s = cc in
@@ -221,6 +222,6 @@ rows-regular (r ∷ rs) p s to l hw hd hr h e = go (fits r p) refl (r.control &&
     go false f c d t later = later t
 
 -- an instruction that has a line is regular
-pub decoded-regular : (first second : ℕ) (s : Shape) (to : Memory) → decode_of first second ≡ Instruction s → is_listed s ≡ true → Regular (pair_of first second) s to
+pub decoded-regular : (first second : ℕ) (s : Shape) (to : Memory) → decode_of first second ≡ Ok s → is_listed s ≡ true → Regular (pair_of first second) s to
 unfolding decode_of pair_of field_of
 decoded-regular first second s to e l = let p = pair_of first second in rows-regular table p s to l (omega arith) (omega arith) (omega arith) (table-regular p.aa p.mm to) e

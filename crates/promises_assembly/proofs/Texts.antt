@@ -7,8 +7,9 @@ use lib.{Dec.ltb, ListN.length, Dec.eqb}
 use borrow.Author.Tests.{not-true, eqb-true, ltb-true, lt-ltb}
 use Rattle.listing_rules.specs.{Characters.same_text, Characters.hex_glyph, Characters.hex_digits, Characters.number_text, Characters.digit_text, Forms.Operand, Forms.spelled, Forms.following}
 use Rattle.listing_rules.proofs.SpellingLaws.{each, present, marks}
+use Rattle.std.specs.declared.option.Option.TheVariants.{Some}
 use Rattle.assembly_rules.specs.{Text.capitals, Text.ends_line, Text.Token, Text.Token.run, Text.tokens_of, Text.cut_at, Text.capital_of, Text.is_digit, Text.is_capital, Text.is_run, Numbers.digit_value, Numbers.is_radix, Numbers.radix_of, Numbers.last_of, Numbers.but_last, Numbers.digits_from, Numbers.constant_digits, Numbers.constant_of, Sums.Label, Sums.index_in, Sums.register_number, Sums.is_sum, Sums.depth_of, Sums.worth, Sums.combined_worth, Sums.rest_with, Sums.sum_with}
-use Rattle.assembly_rules.specs.{Sums.run_read, Sums.term_by, Sums.term_of, Sums.sum_within, Sums.sum_worth, declared.Constant.TheVariants.Value, Trees.sum_tokens, Trees.term_tokens, Trees.sum_depth, Trees.term_depth, Trees.Sum.only, Trees.Term.constant, Operands.operand_from, Operands.Written.value, Text.is_blank, Text.Token.mark, Text.is_comma, Text.begun_by, Statements.headed, Statements.headed_by, Statements.operand_parts, Statements.statement_of, Assembly.said_by}
+use Rattle.assembly_rules.specs.{Sums.run_read, Sums.term_by, Sums.term_of, Sums.sum_within, Sums.sum_worth, Trees.sum_tokens, Trees.term_tokens, Trees.sum_depth, Trees.term_depth, Trees.Sum.only, Trees.Term.constant, Operands.operand_from, Operands.Written.value, Text.is_blank, Text.Token.mark, Text.is_comma, Text.begun_by, Statements.headed, Statements.headed_by, Statements.operand_parts, Statements.statement_of, Assembly.said_by}
 use Rattle.assembly_rules.proofs.{ScanLaws.same-is, ScanLaws.all_fail, WritingLaws.begins_run, WritingLaws.all_run, WritingLaws.Writes, WritingLaws.both_left, WritingLaws.both_right, WritingLaws.written, WritingLaws.all-written, WritingLaws.Writes.nothing, WritingLaws.Writes.comment, WritingLaws.Writes.blank, WritingLaws.Writes.single, WritingLaws.Writes.several, NumberLaws.all_below, NumberLaws.place_value, NumberLaws.lettered, NumberLaws.constant-small}
 use Rattle.assembly_rules.proofs.{ScanLaws.tree-sum, ScanLaws.tree-depth, TextLaws.tokens-blank, TextLaws.tokens-mark}
 
@@ -70,7 +71,7 @@ pub record Constantly (text : List ℕ) (v : ℕ) : Type 0 where
   pub shallow : depth_of (run text ∷ []) ≡ 0
   pub worths : (labels : List Label) → sum_worth labels (run text ∷ []) ≡ worth v true
 
-constantly : (c : ℕ) (r : List ℕ) (v : ℕ) → is_digit c ≡ true → constant_of (c ∷ r) ≡ Value v → is_name (c ∷ r) ≡ true → register_number (c ∷ r) ≡ 9 → Constantly (c ∷ r) v
+constantly : (c : ℕ) (r : List ℕ) (v : ℕ) → is_digit c ≡ true → constant_of (c ∷ r) ≡ Some v → is_name (c ∷ r) ≡ true → register_number (c ∷ r) ≡ 9 → Constantly (c ∷ r) v
 unfolding operand_from sum_tokens term_tokens sum_depth term_depth sum_worth sum_within sum_with term_of term_by run_read rest_with combined_worth
 constantly c r v d e w n =
     let name = name-tokens (c ∷ r) w in
@@ -105,7 +106,7 @@ byte-constant b h =
     let x = glyph u (omega arith) in
     let y = glyph l (omega arith) in
     let e : (0 + (u * 16 + (l * 1 + 0))) % 65536 ≡ b = omega (arith, two_digits b h) in
-    let told : constant_of (number_text (b ∷ [])) ≡ Value b = lettered (48 ∷ hex_glyph u ∷ hex_glyph l ∷ []) 72 refl (rw (x.3, y.3, lt-ltb u 16 (omega arith), lt-ltb l 16 (omega arith))) ∙ rw (x.3, y.3) (ap Value e) in
+    let told : constant_of (number_text (b ∷ [])) ≡ Some b = lettered (48 ∷ hex_glyph u ∷ hex_glyph l ∷ []) 72 refl (rw (x.3, y.3, lt-ltb u 16 (omega arith), lt-ltb l 16 (omega arith))) ∙ rw (x.3, y.3) (ap Some e) in
     constantly 48 (hex_glyph u ∷ hex_glyph l ∷ 72 ∷ []) b refl told (rw (x.0, y.0, x.1, y.1, x.2, y.2)) refl
 
 pub word-constant : (l h : ℕ) → l < 256 → h < 256 → Constantly (number_text (l ∷ h ∷ [])) (l + h * 256)
@@ -121,9 +122,9 @@ word-constant l h k m =
     let w = glyph d (omega arith) in
     let e : 0 + (a * 4096 + (b * 256 + (c * 16 + (d * 1 + 0)))) ≡ l + h * 256 = omega (arith, two_digits h m, two_digits l k) in
     let f : (l + h * 256) % 65536 ≡ l + h * 256 = omega arith in
-    let told : constant_of (number_text (l ∷ h ∷ [])) ≡ Value (l + h * 256) =
+    let told : constant_of (number_text (l ∷ h ∷ [])) ≡ Some (l + h * 256) =
     lettered (48 ∷ hex_glyph a ∷ hex_glyph b ∷ hex_glyph c ∷ hex_glyph d ∷ []) 72 refl (rw (x.3, y.3, z.3, w.3, lt-ltb a 16 (omega arith), lt-ltb b 16 (omega arith), lt-ltb c 16 (omega arith), lt-ltb d 16 (omega arith)))
-    ∙ rw (x.3, y.3, z.3, w.3) (ap (λ (n : ℕ). Value (n % 65536)) e ∙ ap Value f) in
+    ∙ rw (x.3, y.3, z.3, w.3) (ap (λ (n : ℕ). Some (n % 65536)) e ∙ ap Some f) in
     constantly 48 (hex_glyph a ∷ hex_glyph b ∷ hex_glyph c ∷ hex_glyph d ∷ 72 ∷ []) (l + h * 256) refl told (rw (x.0, y.0, z.0, w.0, x.1, y.1, z.1, w.1, x.2, y.2, z.2, w.2)) refl
 
 -- a bit's number, a width

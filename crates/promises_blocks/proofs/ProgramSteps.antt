@@ -1,5 +1,6 @@
 -- The instructions of a copying program, each from its bytes at TP to what it leaves: LPDI, MOVI R, XFER, WID and HLT.
 -- Assumes nothing.
+use Rattle.std.proofs.Common.{Ok}
 use Prim.Native.Nat.{ℕ, ◌+◌, ◌*◌, ◌%◌}
 use lib.Dec.{ltb}
 use mathlib.Core.Bool.{Bool, true, false, not}
@@ -29,7 +30,6 @@ use Rattle.instruction_rules.specs.Changes.{places_of, changed}
 use Rattle.instruction_rules.specs.Marks.{used_up, past_instruction, mark_set}
 use Rattle.instruction_rules.specs.Operands.{work_of, is_move}
 use Rattle.instruction_rules.specs.Pairs.{pair_of}
-use Rattle.instruction_rules.specs.declared.Decoded.TheVariants.{Instruction}
 use Rattle.instruction_rules.specs.declared.Shape.{Shape}
 use Rattle.instruction_rules.specs.declared.Shape.TheVariants.{Lpdi, RegisterImmediate, Xfer, Wid, Hlt}
 use Rattle.instruction_rules.specs.declared.Work.TheVariants.{Mov}
@@ -78,22 +78,22 @@ pub record Stopped (m : Buffers) (c : Channel) (busy : ℕ) : Type 0 where
 -- ---- what the pairs are
 
 -- LPDI GA and LPDI GB
-lpdi-codes : (decode_of 0x11 0x08 ≡ Instruction (Lpdi 0)) × (decode_of 0x31 0x08 ≡ Instruction (Lpdi 1))
+lpdi-codes : (decode_of 0x11 0x08 ≡ Ok (Lpdi 0)) × (decode_of 0x31 0x08 ≡ Ok (Lpdi 1))
 unfolding decode_of lookup table pair_of field_of
 lpdi-codes = (refl, refl)
 
 -- MOVI BC and MOVI CC, of a word
-movi-codes : (decode_of 0x71 0x30 ≡ Instruction (RegisterImmediate Mov 3 true)) × (decode_of 0xD1 0x30 ≡ Instruction (RegisterImmediate Mov 6 true))
+movi-codes : (decode_of 0x71 0x30 ≡ Ok (RegisterImmediate Mov 3 true)) × (decode_of 0xD1 0x30 ≡ Ok (RegisterImmediate Mov 6 true))
 unfolding decode_of lookup table pair_of field_of
 movi-codes = (refl, refl)
 
 -- XFER and HLT
-control-codes : (decode_of 0x60 0x00 ≡ Instruction Xfer) × (decode_of 0x20 0x48 ≡ Instruction Hlt)
+control-codes : (decode_of 0x60 0x00 ≡ Ok Xfer) × (decode_of 0x20 0x48 ≡ Ok Hlt)
 unfolding decode_of lookup table pair_of field_of
 control-codes = (refl, refl)
 
 -- WID of each two widths
-wid-code : (source destination : Bool) → decode_of (wid_of source destination) 0x00 ≡ Instruction (Wid source destination)
+wid-code : (source destination : Bool) → decode_of (wid_of source destination) 0x00 ≡ Ok (Wid source destination)
 unfolding decode_of lookup table pair_of field_of bit_of
 wid-code true true = refl
 wid-code true false = refl
@@ -121,7 +121,7 @@ wid-psw false false = refl
 
 module _ (m : Buffers) (c : Channel) (busy : ℕ) where
   -- an instruction of which all may be touched is what its shape does
-  shape-executed : (shape : Shape) {one two : ℕ} {rest : List ℕ} → Stand m c.tp (one ∷ two ∷ rest) → decode_of one two ≡ Instruction shape
+  shape-executed : (shape : Shape) {one two : ℕ} {rest : List ℕ} → Stand m c.tp (one ∷ two ∷ rest) → decode_of one two ≡ Ok shape
       → all_touchable m (later_bytes shape c) ≡ true → (deed_of shape m c busy).second ≡ 0 → all_touchable m (deed_of shape m c busy).reads ≡ true
       → all_touchable m (places_of (deed_of shape m c busy).change) ≡ true
       → execute_of c busy m ≡ executed 0 (deed_of shape m c busy).channel (changed m (deed_of shape m c busy).change)
@@ -129,7 +129,7 @@ module _ (m : Buffers) (c : Channel) (busy : ℕ) where
 
   -- LPDI of a register
   lpdi-executed : (r : ℕ) {one lo hi lo' hi' : ℕ} {rest : List ℕ} → Stand m c.tp (one ∷ 0x08 ∷ lo ∷ hi ∷ lo' ∷ hi' ∷ rest)
-      → decode_of one 0x08 ≡ Instruction (Lpdi r) → execute_of c busy m ≡ executed 0 (loaded (past_instruction c 6) r (address_of (word_of lo hi) (word_of lo' hi'))) m
+      → decode_of one 0x08 ≡ Ok (Lpdi r) → execute_of c busy m ≡ executed 0 (loaded (past_instruction c 6) r (address_of (word_of lo hi) (word_of lo' hi'))) m
   unfolding changed deed_of performed lpdi_deed places_of later_bytes span all_pass length_of data_length displacement_length onward
   lpdi-executed r there e =
       shape-executed (Lpdi r) there e (rest-touchable there 2 4 (omega arith)) refl refl refl
@@ -146,7 +146,7 @@ module _ (m : Buffers) (c : Channel) (busy : ℕ) where
     seen-on n = ap (λ (v : View). view v.ga v.gb (onward v.tp n) v.bc v.cc (used_up v.armed v.psw) v.mode false) s
 
     -- LPDI of a register, by what it puts into the view
-    lpdi-to : (r : ℕ) (into : Pointer → View → View) {one lo hi lo' hi' : ℕ} {rest : List ℕ} → decode_of one 0x08 ≡ Instruction (Lpdi r)
+    lpdi-to : (r : ℕ) (into : Pointer → View → View) {one lo hi lo' hi' : ℕ} {rest : List ℕ} → decode_of one 0x08 ≡ Ok (Lpdi r)
         → ((d : Channel) (a : ℕ) → view_of (loaded d r a) ≡ into (pointer (a % 1048576) false) (view_of d)) → Stand m tp (one ∷ 0x08 ∷ lo ∷ hi ∷ lo' ∷ hi' ∷ rest)
         → After m c busy (into (pointer (address_of (word_of lo hi) (word_of lo' hi')) false) (view ga gb (onward tp 6) bc cc psw Running false)) m
     lpdi-to r into {lo = lo} {hi} {lo'} {hi'} code puts there =
@@ -160,7 +160,7 @@ module _ (m : Buffers) (c : Channel) (busy : ℕ) where
         }
 
     -- MOVI of a word to a register, so too
-    movi-to : (r : ℕ) (into : ℕ → View → View) {one lo hi : ℕ} {rest : List ℕ} → decode_of one 0x30 ≡ Instruction (RegisterImmediate Mov r true)
+    movi-to : (r : ℕ) (into : ℕ → View → View) {one lo hi : ℕ} {rest : List ℕ} → decode_of one 0x30 ≡ Ok (RegisterImmediate Mov r true)
         → ((d : Channel) (a : ℕ) → view_of (moved d r a) ≡ into (a % 65536) (view_of d)) → Stand m tp (one ∷ 0x30 ∷ lo ∷ hi ∷ rest)
         → After m c busy (into (word_of lo hi % 65536) (view ga gb (onward tp 4) bc cc psw Running false)) m
     unfolding register_written is_move work_of length_of data_length displacement_length

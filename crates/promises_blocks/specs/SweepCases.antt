@@ -1,13 +1,11 @@
 -- Sweeps in numbers: three that are done, and each condition failing alone.
-use Rattle.std.specs.Prelude.{Bool, true, false, [], ◌∷◌, ◌≡◌, ℕ}
+use Rattle.std.specs.Prelude.{Bool, true, false, [], ◌∷◌, ◌≡◌, ℕ, Option, None, Some}
 use Rattle.ground_rules.specs.Buffers.{Buffers, buffers}
 use Rattle.ground_rules.specs.Values.{pointer}
 use Rattle.ground_rules.specs.declared.Pointer.{Pointer}
 use Rattle.ground_rules.specs.Cc.{split}
 use Rattle.ground_rules.specs.States.{board_with, idle_channel}
 use Rattle.ground_rules.specs.declared.Channel.{Channel}
-use Rattle.ground_rules.specs.declared.Held.{Held}
-use Rattle.ground_rules.specs.declared.Held.TheVariants.{NoByte, Byte}
 use Rattle.ground_rules.specs.declared.Mode.{Mode}
 use Rattle.ground_rules.specs.declared.Mode.TheVariants.{Running, Suspended}
 use Rattle.ground_rules.specs.declared.State.{State}
@@ -15,7 +13,7 @@ use Rattle.sweep_rules.specs.Plainly.{plainly}
 use Rattle.sweep_rules.specs.Sweep.{swept_to, sweep_of}
 
 -- a channel in the middle of a transfer: GA, GB, TP, BC, CC with its fields, PSW, and what it holds; armed, and with numbers in the other registers
-unfoldable pub mid_transfer : Mode → Pointer → Pointer → Pointer → ℕ → ℕ → ℕ → Held → Channel
+unfoldable pub mid_transfer : Mode → Pointer → Pointer → Pointer → ℕ → ℕ → ℕ → Option ℕ → Channel
 mid_transfer mode ga gb tp bc cc psw held =
     record {
       ga = ga;
@@ -44,34 +42,34 @@ sixteen = buffers (21 ∷ 22 ∷ 23 ∷ 24 ∷ []) (1 ∷ 2 ∷ 3 ∷ 4 ∷ 5 �
 
 -- channel 2 moves 5 bytes of I/O space from 1 to 7, by 16 bits and both odd, with high bits in both pointers; TBC 10, TP over the top by 4; a byte held
 abbrev pub odd_sides : State
-odd_sides = state_with idle_channel (mid_transfer Running (pointer 0x30001 true) (pointer 0x50007 true) (pointer 0xFFFFE true) 5 0xC010 0xC3 (Byte 3)) false
+odd_sides = state_with idle_channel (mid_transfer Running (pointer 0x30001 true) (pointer 0x50007 true) (pointer 0xFFFFE true) 5 0xC010 0xC3 (Some 3)) false
 
 -- channel 1 moves 4 bytes from 0 of system space to 2 of I/O space, from 8 bits into 16, the source being GB; TBC 01; channel 2 is suspended
 abbrev pub across_spaces : State
 across_spaces =
-    state_with (mid_transfer Running (pointer 2 true) (pointer 0 false) (pointer 0x40 false) 4 0xC408 0x41 NoByte)
-    (mid_transfer Suspended (pointer 0 false) (pointer 0 false) (pointer 0 false) 0 0 0 (Byte 9)) true
+    state_with (mid_transfer Running (pointer 2 true) (pointer 0 false) (pointer 0x40 false) 4 0xC408 0x41 None)
+    (mid_transfer Suspended (pointer 0 false) (pointer 0 false) (pointer 0 false) 0 0 0 (Some 9)) true
 
 -- one byte left: from 4 to 8 of I/O space, by 16 bits and both even; TBC 11
 abbrev pub one_left : State
-one_left = state_with idle_channel (mid_transfer Running (pointer 4 true) (pointer 8 true) (pointer 0x40 false) 1 0xC018 0x43 NoByte) true
+one_left = state_with idle_channel (mid_transfer Running (pointer 4 true) (pointer 8 true) (pointer 0x40 false) 1 0xC018 0x43 None) true
 
 pub record SweptCases : Type 0 where
   -- 3 steps: the lone byte and two words; 10 bytes read and stored
   pub odd : sweep_of odd_sides sixteen 2 3
-      ≡ swept_to 0 (state_with idle_channel (mid_transfer Running (pointer 0x30006 true) (pointer 0x5000C true) (pointer 2 true) 0 0xC010 0x83 NoByte) true)
+      ≡ swept_to 0 (state_with idle_channel (mid_transfer Running (pointer 0x30006 true) (pointer 0x5000C true) (pointer 2 true) 0 0xC010 0x83 None) true)
       (buffers (21 ∷ 22 ∷ 23 ∷ 24 ∷ []) (1 ∷ 2 ∷ 3 ∷ 4 ∷ 5 ∷ 6 ∷ 7 ∷ 2 ∷ 3 ∷ 4 ∷ 5 ∷ 6 ∷ [])) 3 10
   pub odd_plain : sweep_of odd_sides sixteen 2 3 ≡ plainly 4 odd_sides sixteen true 3
   -- 2 steps, words on the destination's side
   pub across : sweep_of across_spaces sixteen 1 0
       ≡ swept_to 0
-      (state_with (mid_transfer Running (pointer 6 true) (pointer 4 false) (pointer 0x40 false) 0 0xC408 0x01 NoByte)
-      (mid_transfer Suspended (pointer 0 false) (pointer 0 false) (pointer 0 false) 0 0 0 (Byte 9)) false)
+      (state_with (mid_transfer Running (pointer 6 true) (pointer 4 false) (pointer 0x40 false) 0 0xC408 0x01 None)
+      (mid_transfer Suspended (pointer 0 false) (pointer 0 false) (pointer 0 false) 0 0 0 (Some 9)) false)
       (buffers (21 ∷ 22 ∷ 23 ∷ 24 ∷ []) (1 ∷ 2 ∷ 21 ∷ 22 ∷ 23 ∷ 24 ∷ 7 ∷ 8 ∷ 9 ∷ 10 ∷ 11 ∷ 12 ∷ [])) 2 8
   pub across_plain : sweep_of across_spaces sixteen 1 0 ≡ plainly 2 across_spaces sixteen false 0
   -- 1 step
   pub one : sweep_of one_left sixteen 2 1
-      ≡ swept_to 0 (state_with idle_channel (mid_transfer Running (pointer 5 true) (pointer 9 true) (pointer 0x48 false) 0 0xC018 0x03 NoByte) true)
+      ≡ swept_to 0 (state_with idle_channel (mid_transfer Running (pointer 5 true) (pointer 9 true) (pointer 0x48 false) 0 0xC018 0x03 None) true)
       (buffers (21 ∷ 22 ∷ 23 ∷ 24 ∷ []) (1 ∷ 2 ∷ 3 ∷ 4 ∷ 5 ∷ 6 ∷ 7 ∷ 8 ∷ 5 ∷ 10 ∷ 11 ∷ 12 ∷ [])) 1 2
   pub one_plain : sweep_of one_left sixteen 2 1 ≡ plainly 1 one_left sixteen true 1
 
@@ -79,8 +77,8 @@ pub record SweptCases : Type 0 where
 abbrev pub number_with : Mode → Mode → ℕ → ℕ → ℕ → ℕ → ℕ → ℕ
 number_with other mode from into cc psw lines =
     (sweep_of
-    (state_with (mid_transfer other (pointer 0 false) (pointer 0 false) (pointer 0 false) 0 0 0 NoByte)
-    (mid_transfer mode (pointer from true) (pointer into true) (pointer 0 false) 5 cc psw NoByte) false) sixteen 2 lines).number
+    (state_with (mid_transfer other (pointer 0 false) (pointer 0 false) (pointer 0 false) 0 0 0 None)
+    (mid_transfer mode (pointer from true) (pointer into true) (pointer 0 false) 5 cc psw None) false) sixteen 2 lines).number
 
 -- what differs from a sweep that is done, in each row one thing
 pub record SweepConditions : Type 0 where
@@ -120,7 +118,7 @@ pub record SweepConditions : Type 0 where
   pub past_pointer : number_with Suspended Running 0x100001 7 0xC010 0x83 0 ≡ 10
   pub bit_nine : number_with Suspended Running 1 7 0xC210 0xC3 0 ≡ 0
   -- equal addresses in two spaces share no byte
-  pub two_spaces : (sweep_of (state_with (mid_transfer Running (pointer 0 false) (pointer 0 true) (pointer 0 false) 4 0xC010 0xC3 NoByte) idle_channel true) sixteen 1 0).number ≡ 0
+  pub two_spaces : (sweep_of (state_with (mid_transfer Running (pointer 0 false) (pointer 0 true) (pointer 0 false) 4 0xC010 0xC3 None) idle_channel true) sixteen 1 0).number ≡ 0
   -- channel 3; a state that is not powered up, or whose fields are others, with XF clear too
   pub third : (sweep_of odd_sides sixteen 3 0).number ≡ 12
   pub unpowered : (sweep_of (record { first = idle_channel; second = idle_channel; cp = 0; last = true; board = board_with false false false false }) sixteen 1 0).number ≡ 13
@@ -138,5 +136,5 @@ pub record SweepConditions : Type 0 where
     mode = Running;
     armed = false;
     fields = split 0xC011;
-    held = NoByte;
+    held = None;
   }) idle_channel true) sixteen 1 0).number ≡ 14

@@ -1,5 +1,6 @@
 -- The decoder's numbers are those of the codes, held against each other at all 65,536 pairs of bytes, and so many pairs have each.
 -- Assumes nothing.
+use Rattle.std.proofs.Common.{Some, None}
 use Prim.Native.Nat.{ℕ, zero, suc, ◌/◌, ◌%◌, ◌<◌}
 use borrow.Author.Tests.{eqb-true}
 use lib.Dec.{eqb}
@@ -13,10 +14,9 @@ use Rattle.ground_rules.specs.Bits.{field_of, bit_of}
 use Rattle.ground_rules.specs.Choice.{pick}
 use Rattle.ground_rules.proofs.ChoiceLaws.{apart}
 use Rattle.instruction_rules.specs.Pairs.{pair_of}
-use Rattle.instruction_rules.specs.Reading.{lookup, decode_of, number_of, second_of, second_number_of}
+use Rattle.instruction_rules.specs.Reading.{lookup, decode_of, decoded_number, second_of, second_number_of}
 use Rattle.instruction_rules.specs.Table.{SummaryRow, table}
 use Rattle.instruction_rules.specs.declared.Memory.{Memory}
-use Rattle.instruction_rules.specs.declared.Second.TheVariants.{Operand, NoSecond}
 use Rattle.instruction_rules.proofs.TableLaws.{rows_at, own-rows}
 use Rattle.promises_codes.specs.Codes.{Code, none, codes, code_number, number_by_codes, second_by_codes, sum_below, pairs_given, DecoderCodes}
 
@@ -44,7 +44,7 @@ sum_same (suc n) f g e = rw (sum_same n f g (λ i h. e i (omega (arith, h))), e 
 
 -- the rows of an opcode against its code, at every first byte; both are handed over, so that they are worked out once
 agree_at : List SummaryRow → Code → ℕ → Bool
-agree_at rows c second = all_below 256 (λ (first : ℕ). eqb (number_of (lookup rows (pair_of first second))) (code_number c first second))
+agree_at rows c second = all_below 256 (λ (first : ℕ). eqb (decoded_number (lookup rows (pair_of first second))) (code_number c first second))
 
 -- the whole table against the codes
 whole : all_below 256 (λ (second : ℕ). agree_at (rows_at (field_of second 2 6) table) (get_or codes (second / 4) none) second) ≡ true
@@ -52,10 +52,10 @@ unfolding all_below agree_at lookup table rows_at pair_of field_of bit_of codes 
 whole = refl
 
 -- a pair of bytes has the number that its code says
-by_codes : (first second : ℕ) → first < 256 → second < 256 → number_of (decode_of first second) ≡ number_by_codes first second
+by_codes : (first second : ℕ) → first < 256 → second < 256 → decoded_number (decode_of first second) ≡ number_by_codes first second
 unfolding decode_of agree_at pair_of number_by_codes
 by_codes first second f s =
-    ap number_of (own-rows table (pair_of first second))
+    ap decoded_number (own-rows table (pair_of first second))
     ∙ eqb-true _ _ (of-all 256 _ (of-all 256 _ whole second s) first f)
 
 -- what a second pair asks of its first byte
@@ -64,7 +64,7 @@ unfolding all_below second_of second_by_codes pair_of field_of
 seconds true = refl
 seconds false = refl
 
-told : (b x y : Bool) (m m' : Memory) → second_number_of (pick x (Operand m) NoSecond) ≡ pick y 0 3 → second_number_of (pick (b && x) (Operand m') NoSecond) ≡ pick (b && y) 0 3
+told : (b x y : Bool) (m m' : Memory) → second_number_of (pick x (Some m) None) ≡ pick y 0 3 → second_number_of (pick (b && x) (Some m') None) ≡ pick (b && y) 0 3
 told false x y m m' e = refl
 told true true y m m' e = e
 told true false y m m' e = e
@@ -84,7 +84,7 @@ given : ℕ → ℕ
 given number = sum_below 256 (λ (second : ℕ). given_at (get_or codes (second / 4) none) second number)
 
 -- as many pairs as the codes give
-counted : (number : ℕ) → pairs_given (λ (first second : ℕ). number_of (decode_of first second)) number ≡ given number
+counted : (number : ℕ) → pairs_given (λ (first second : ℕ). decoded_number (decode_of first second)) number ≡ given number
 unfolding pairs_given given_at given number_by_codes
 counted number = sum_same 256 _ _ (λ second s. sum_same 256 _ _ (λ first f. ap (λ (n : ℕ). pick (eqb n number) 1 0) (by_codes first second f s)))
 

@@ -2,7 +2,7 @@
 use Rattle.std.specs.Prelude.{Bool, true, false, ◌&&◌, List, [], ◌∷◌, ◌≡◌, ℕ, zero, suc, ◌+◌, ◌/◌, ◌%◌, ◌<◌, eqb, ltb, get_or}
 use Rattle.ground_rules.specs.Bits.{bit_of}
 use Rattle.ground_rules.specs.Choice.{pick}
-use Rattle.instruction_rules.specs.Reading.{decode_of, number_of, second_of, second_number_of}
+use Rattle.instruction_rules.specs.Reading.{decode_of, decoded_number, second_of, second_number_of}
 
 -- the fields that a pair with some opcode may have, each set a number with a bit for each value: RRR; dd where W is 0, and where it is 1; AA; MM; and whether RRR 6 is refused by 4
 pub record Code : Type 0 where
@@ -108,10 +108,10 @@ pairs_given f number = sum_below 256 (λ (second : ℕ). sum_below 256 (λ (firs
 -- what is promised of the decoder
 pub record DecoderCodes : Type 0 where
   -- every pair of bytes has the number that its code says
-  pub first-pairs : (first second : ℕ) → first < 256 → second < 256 → number_of (decode_of first second) ≡ number_by_codes first second
+  pub first-pairs : (first second : ℕ) → first < 256 → second < 256 → decoded_number (decode_of first second) ≡ number_by_codes first second
   -- and as a second pair that of opcode 33h
   pub second-pairs : (wide : Bool) (first second : ℕ) → first < 256 → second < 256 → second_number_of (second_of first second wide) ≡ second_by_codes first second wide
   -- 3,687 are instructions, 237 use CC, and 61,612 are none
-  pub instructions : pairs_given (λ (first second : ℕ). number_of (decode_of first second)) 0 ≡ 3687
-  pub control-used : pairs_given (λ (first second : ℕ). number_of (decode_of first second)) 4 ≡ 237
-  pub no-instructions : pairs_given (λ (first second : ℕ). number_of (decode_of first second)) 3 ≡ 61612
+  pub instructions : pairs_given (λ (first second : ℕ). decoded_number (decode_of first second)) 0 ≡ 3687
+  pub control-used : pairs_given (λ (first second : ℕ). decoded_number (decode_of first second)) 4 ≡ 237
+  pub no-instructions : pairs_given (λ (first second : ℕ). decoded_number (decode_of first second)) 3 ≡ 61612

@@ -1,5 +1,6 @@
 -- What each call counts: its list where it is done, exactly, and nothing where it is refused.
 -- Assumes nothing.
+use Rattle.std.proofs.Common.{Ok}
 use Prim.Native.Nat.{ℕ, ◌+◌, ◌≤◌}
 use borrow.Author.Tests.{eq-eqb, ne_eqb}
 use lib.Dec.{eqb, lit≤}
@@ -28,7 +29,6 @@ use Rattle.attention_rules.proofs.PowerNumbers.{power-number}
 use Rattle.attention_rules.proofs.PowerOutcomes.{power-touches}
 use Rattle.attention_rules.specs.Power.{touched_by_power, power_number, power_up_of, power_count}
 use Rattle.instruction_rules.specs.Lengths.{data_length, displacement_length, length_of}
-use Rattle.instruction_rules.specs.declared.Decoded.TheVariants.{Instruction}
 use Rattle.instruction_rules.specs.declared.Shape.{Shape}
 use Rattle.instruction_rules.specs.declared.Shape.TheVariants.{Hlt, Tsl}
 use Rattle.instruction_rules.specs.Operands.{byte_here, effective}
@@ -222,7 +222,7 @@ module _ (c : Channel) (busy : ℕ) (m : Buffers) where
   instruction-within =
       counted-within 10 (execute_of c busy m).number (touched_by_instruction m c busy) (λ e. touched-most m c busy (sym (number_is c busy m) ∙ e))
 
-  instruction-exact : (s : Shape) → decoded_at m c.tp ≡ Instruction s → (execute_of c busy m).number ≡ 0 → execute_count c busy m ≡ instruction_count s m c
+  instruction-exact : (s : Shape) → decoded_at m c.tp ≡ Ok s → (execute_of c busy m).number ≡ 0 → execute_count c busy m ≡ instruction_count s m c
   instruction-exact s d e = instruction-within.list e ∙ touched-exact m c busy s d (sym (number_is c busy m) ∙ e)
 
   pub instruction-counts : InstructionCounts c busy m

@@ -1,5 +1,6 @@
 -- What an instruction does depends on no byte but its own and those that its deed reads: shape by shape.
 -- Assumes nothing.
+use Rattle.std.proofs.Common.{Option, Some, None}
 use Prim.Native.Nat.{ℕ, ◌+◌, ◌-◌, ◌%◌, ◌≤◌}
 use lib.Dec.{eqb, lit<}
 use mathlib.Core.Bool.{Bool, true, false}
@@ -19,8 +20,6 @@ use Rattle.ground_rules.specs.declared.Channel.{Channel}
 use Rattle.instruction_rules.specs.Lengths.{one_or_two, offset_length, data_length, displacement_length, length_of}
 use Rattle.instruction_rules.specs.Reading.{second_of}
 use Rattle.instruction_rules.specs.declared.Memory.{Memory}
-use Rattle.instruction_rules.specs.declared.Second.{Second}
-use Rattle.instruction_rules.specs.declared.Second.TheVariants.{Operand, NoSecond}
 use Rattle.instruction_rules.specs.declared.Shape.{Shape}
 use Rattle.instruction_rules.specs.declared.Shape.TheVariants.{Nop, Sintr, Xfer, Wid, Hlt, Lpdi, RegisterImmediate, Register, JumpRegister, RegisterMemory, MemoryRegister, MemoryImmediate, MemoryAlone, JumpMemory, Lpd, MovpLoad, MovpStore, MovMemory, Tsl, Call, JumpMasked, JumpBit, Bit}
 use Rattle.instruction_rules.specs.declared.Single.{Single}
@@ -128,10 +127,10 @@ module _ (m n : Buffers) (c : Channel) (tp : Pointer) (k : ℕ) (later : AgreeOn
       let pair = after_same o 2 fits in
       ap₂ (λ (x y : ℕ). second_of x y o.wide) (byte-same m n (after_pair tp o) 2 (lit< tt) pair) (byte-on m n (after_pair tp o) 2 1 (lit< tt) pair)
 
-  mov-second : (o : Memory) (x : Second) → offset_length o ≤ k → ReadsAgree (mov_second_deed m c tp o x) m n → mov_second_deed n c tp o x ≡ mov_second_deed m c tp o x
+  mov-second : (o : Memory) (x : Option Memory) → offset_length o ≤ k → ReadsAgree (mov_second_deed m c tp o x) m n → mov_second_deed n c tp o x ≡ mov_second_deed m c tp o x
   unfolding mov_second_deed mov_operand_deed
-  mov-second o NoSecond fits reads = refl
-  mov-second o (Operand q) fits reads =
+  mov-second o None fits reads = refl
+  mov-second o (Some q) fits reads =
       let offset = agree_left m n (bytes_at (onward (after_pair tp o) 2) (offset_length q)) (bytes_at (effective m c o tp) (size_of o.wide)) reads in
       let operand = agree_right m n (bytes_at (onward (after_pair tp o) 2) (offset_length q)) (bytes_at (effective m c o tp) (size_of o.wide)) reads in
       rw (offset-same o fits, operand_same m n (effective m c o tp) o.wide operand, effective-same m n (grown c o (size_of o.wide)) q (after_pair tp o) offset)

@@ -1,5 +1,6 @@
 -- The list of an instruction is complete.
 -- Assumes nothing.
+use Rattle.std.proofs.Common.{Ok, Err, Option, Some, None}
 use Prim.Native.Nat.{ℕ, ◌+◌, ◌/◌, ◌%◌, ◌≤◌}
 use borrow.Author.Tests.{eqb-true, eq-eqb, ne_eqb}
 use lib.Dec.{eqb, lit<}
@@ -16,12 +17,10 @@ use Rattle.ground_rules.specs.declared.Pointer.{Pointer}
 use Rattle.ground_rules.specs.Stages.{stage, stages_number, stages_touched}
 use Rattle.ground_rules.specs.declared.Channel.{Channel}
 use Rattle.instruction_rules.specs.Lengths.{length_of}
-use Rattle.instruction_rules.specs.Reading.{decode_of, number_of}
-use Rattle.instruction_rules.specs.declared.Decoded.{Decoded}
-use Rattle.instruction_rules.specs.declared.Decoded.TheVariants.{Instruction, NoInstruction, ControlUsed}
+use Rattle.instruction_rules.specs.Reading.{decode_of, decoded_number}
+use Rattle.instruction_rules.specs.Decoded.{Decoded}
+use Rattle.instruction_rules.specs.declared.Unread.TheVariants.{NoInstruction, ControlUsed}
 use Rattle.instruction_rules.specs.declared.Memory.{Memory}
-use Rattle.instruction_rules.specs.declared.Second.{Second}
-use Rattle.instruction_rules.specs.declared.Second.TheVariants.{Operand, NoSecond}
 use Rattle.instruction_rules.specs.declared.Shape.{Shape}
 use Rattle.instruction_rules.specs.declared.Shape.TheVariants.{Nop, Sintr, Xfer, Wid, Hlt, Lpdi, RegisterImmediate, Register, JumpRegister, RegisterMemory, MemoryRegister, MemoryImmediate, MemoryAlone, JumpMemory, Lpd, MovpLoad, MovpStore, MovMemory, Tsl, Call, JumpMasked, JumpBit, Bit}
 use Rattle.instruction_rules.specs.Changes.{changed, places_of}
@@ -106,10 +105,10 @@ tsl-most : (x : Bool) (ps : List Place) (a b : Channel) (e f : Change) → e.cou
 tsl-most true ps a b e f h k = h
 tsl-most false ps a b e f h k = k
 
-mov-most : (m : Buffers) (c : Channel) (tp : Pointer) (o : Memory) (x : Second) → (mov_second_deed m c tp o x).change.count ≤ 3
+mov-most : (m : Buffers) (c : Channel) (tp : Pointer) (o : Memory) (x : Option Memory) → (mov_second_deed m c tp o x).change.count ≤ 3
 unfolding mov_second_deed mov_operand_deed
-mov-most m c tp o (Operand q) = size-most o.wide
-mov-most m c tp o NoSecond = omega arith
+mov-most m c tp o (Some q) = size-most o.wide
+mov-most m c tp o None = omega arith
 
 pub stores-most : (s : Shape) (m : Buffers) (c : Channel) (tp : Pointer) (armed : Bool) (busy : ℕ) → (performed s m c tp armed busy).change.count ≤ 3
 unfolding performed nop_deed sintr_deed xfer_deed wid_deed hlt_deed register_immediate_deed register_deed register_memory_deed lpdi_deed lpd_deed movp_load_deed worked_back memory_work_deed memory_register_deed memory_immediate_deed memory_alone_deed movp_store_deed bit_deed mov_memory_deed jump_register_deed jump_memory_deed jump_byte_deed jump_masked_deed jump_bit_deed tsl_deed call_deed
@@ -161,33 +160,33 @@ three-places false y ws = refl
 module _ (c : Channel) (busy : ℕ) (m : Buffers) where
   -- what an instruction reads, d being what its first two bytes are
   unfoldable pub read_in : Decoded → List Place
-  read_in d = bytes_at c.tp 2 ++ pick (eqb (number_of d) 0) (later_from d c ++ pick (eqb (deed_from d m c busy).second 0) (deed_from d m c busy).reads []) []
+  read_in d = bytes_at c.tp 2 ++ pick (eqb (decoded_number d) 0) (later_from d c ++ pick (eqb (deed_from d m c busy).second 0) (deed_from d m c busy).reads []) []
 
   -- the places that it stores to
   unfoldable pub written_in : Decoded → List Place
-  written_in d = pick (eqb (number_of d) 0) (pick (eqb (deed_from d m c busy).second 0) (places_of (deed_from d m c busy).change) []) []
+  written_in d = pick (eqb (decoded_number d) 0) (pick (eqb (deed_from d m c busy).second 0) (places_of (deed_from d m c busy).change) []) []
 
   -- what it stores
   stored_in : Decoded → List Store
-  stored_in d = pick (eqb (number_of d) 0) (pick (eqb (deed_from d m c busy).second 0) (change_stores (deed_from d m c busy).change) []) []
+  stored_in d = pick (eqb (decoded_number d) 0) (pick (eqb (deed_from d m c busy).second 0) (change_stores (deed_from d m c busy).change) []) []
 
   change-most : (d : Decoded) → (deed_from d m c busy).change.count ≤ 3
   unfolding deed_from deed_of
-  change-most (Instruction s) = stores-most s m (past_instruction c (length_of s)) c.tp c.armed busy
-  change-most NoInstruction = omega arith
-  change-most ControlUsed = omega arith
+  change-most (Ok s) = stores-most s m (past_instruction c (length_of s)) c.tp c.armed busy
+  change-most (Err NoInstruction) = omega arith
+  change-most (Err ControlUsed) = omega arith
 
   read-and-stored : (d : Decoded) → stages_touched (stages_from d m c busy) ≡ read_in d ++ written_in d
   unfolding stages_touched stages_from read_in written_in
   read-and-stored d =
       let done = deed_from d m c busy in
-      three-split (bytes_at c.tp 2) (later_from d c) done.reads (places_of done.change) (eqb (number_of d) 0) (eqb done.second 0)
+      three-split (bytes_at c.tp 2) (later_from d c) done.reads (places_of done.change) (eqb (decoded_number d) 0) (eqb done.second 0)
 
   stored-places : (d : Decoded) → store_places (stored_in d) ≡ written_in d
   unfolding stored_in written_in
   stored-places d =
       let done = deed_from d m c busy in
-      let x = eqb (number_of d) 0 in
+      let x = eqb (decoded_number d) 0 in
       let y = eqb done.second 0 in
       three-places x y (change_stores done.change) ∙ ap (λ (ps : List Place). pick x (pick y ps []) []) (change-places done.change (change-most d))
 
@@ -200,14 +199,14 @@ module _ (c : Channel) (busy : ℕ) (m : Buffers) where
 
     deed-same : (d : Decoded) → AgreeOn (read_in d) m n → deed_from d n c busy ≡ deed_from d m c busy
     unfolding read_in deed_from later_from deed_of later_bytes
-    deed-same (Instruction s) h =
+    deed-same (Ok s) h =
         let done = performed s m (past_instruction c (length_of s)) c.tp c.armed busy in
         let rest = agree_right m n (bytes_at c.tp 2) (later_bytes s c ++ pick (eqb done.second 0) done.reads []) h in
         performed-same s m n (past_instruction c (length_of s)) c.tp c.armed busy
         (agree_left m n (later_bytes s c) (pick (eqb done.second 0) done.reads []) rest)
         (agree_right m n (later_bytes s c) (pick (eqb done.second 0) done.reads []) rest)
-    deed-same NoInstruction h = refl
-    deed-same ControlUsed h = refl
+    deed-same (Err NoInstruction) h = refl
+    deed-same (Err ControlUsed) h = refl
 
     module _ (h : AgreeOn (read_in (decoded_at m c.tp)) m n) where
       pub pair_same : decoded_at n c.tp ≡ decoded_at m c.tp
@@ -216,7 +215,7 @@ module _ (c : Channel) (busy : ℕ) (m : Buffers) where
           let d = decoded_at m c.tp in
           decoded-same
           (agree_left m n (bytes_at c.tp 2)
-          (pick (eqb (number_of d) 0) (later_from d c ++ pick (eqb (deed_from d m c busy).second 0) (deed_from d m c busy).reads []) []) h)
+          (pick (eqb (decoded_number d) 0) (later_from d c ++ pick (eqb (deed_from d m c busy).second 0) (deed_from d m c busy).reads []) []) h)
 
       pub done-same : deed_from (decoded_at n c.tp) n c busy ≡ deed_from (decoded_at m c.tp) m c busy
       done-same = ap (λ (d : Decoded). deed_from d n c busy) pair_same ∙ deed-same (decoded_at m c.tp) h
@@ -224,7 +223,7 @@ module _ (c : Channel) (busy : ℕ) (m : Buffers) where
       pub stages-same : instruction_stages n c busy ≡ instruction_stages m c busy
       unfolding instruction_stages stages_from
       stages-same =
-          ap₂ (λ (d : Decoded) (e : Deed). stage (bytes_at c.tp 2) (number_of d) ∷ stage (later_from d c) e.second ∷ stage (e.reads ++ places_of e.change) 0 ∷ [])
+          ap₂ (λ (d : Decoded) (e : Deed). stage (bytes_at c.tp 2) (decoded_number d) ∷ stage (later_from d c) e.second ∷ stage (e.reads ++ places_of e.change) 0 ∷ [])
           pair_same done-same
 
       instruction-number : SameLengths m n → execute_number n c busy ≡ execute_number m c busy
@@ -248,7 +247,7 @@ module _ (c : Channel) (busy : ℕ) (m : Buffers) where
   unfolding stored_in
   stored-all z =
       let d = decoded_at m c.tp in
-      rw (eq-eqb (number_of d) 0 (pair-passed c busy m z), eq-eqb (deed_from d m c busy).second 0 (second-passed c busy m z))
+      rw (eq-eqb (decoded_number d) 0 (pair-passed c busy m z), eq-eqb (deed_from d m c busy).second 0 (second-passed c busy m z))
 
   left-same : (n : Buffers) (b : Bool) → eqb (execute_number m c busy) 0 ≡ b
       → (pick b (executed 0 (deed_from (decoded_at m c.tp) m c busy).channel (changed n (deed_from (decoded_at m c.tp) m c busy).change)) (executed (execute_number m c busy) c n)).memory

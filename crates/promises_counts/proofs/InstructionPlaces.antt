@@ -1,5 +1,6 @@
 -- Which bytes an instruction touches, place by place.
 -- Assumes nothing.
+use Rattle.std.proofs.Common.{Ok}
 use Prim.Native.Nat.{ℕ, ◌+◌, ◌-◌, ◌%◌}
 use borrow.Author.Tests.{eq-eqb, ne_eqb}
 use lib.Dec.{eqb}
@@ -20,7 +21,6 @@ use Rattle.instruction_rules.specs.JumpForms.{tsl_deed}
 use Rattle.instruction_rules.specs.Lengths.{length_of}
 use Rattle.instruction_rules.specs.Marks.{past_instruction}
 use Rattle.instruction_rules.specs.Operands.{byte_here, indexed, effective}
-use Rattle.instruction_rules.specs.declared.Decoded.TheVariants.{Instruction}
 use Rattle.instruction_rules.specs.declared.Memory.{Memory}
 use Rattle.instruction_rules.specs.declared.Shape.{Shape}
 use Rattle.instruction_rules.specs.declared.Shape.TheVariants.{Tsl}
@@ -31,7 +31,7 @@ module _ (c : Channel) (busy : ℕ) (m : Buffers) where
   unfoldable after-own : Shape → List Place
   after-own s = let d = deed_of s m c busy in pick (eqb d.second 0) ((d.reads ++ places_of d.change) ++ []) []
 
-  own_first : (s : Shape) → decoded_at m c.tp ≡ Instruction s → touched_by_instruction m c busy ≡ own_places c.tp (length_of s - 2) ++ after-own s
+  own_first : (s : Shape) → decoded_at m c.tp ≡ Ok s → touched_by_instruction m c busy ≡ own_places c.tp (length_of s - 2) ++ after-own s
   unfolding after-own touched_by_instruction instruction_stages stages_from stages_touched later_from later_bytes deed_from span onward
   own_first s d = rw d
 

@@ -1,5 +1,6 @@
 -- The list of a transfer step is complete.
 -- Assumes nothing.
+use Rattle.std.proofs.Common.{Some}
 use Prim.Native.Nat.{ℕ}
 use lib.Dec.{eqb}
 use mathlib.Core.Bool.{Bool, true, false, not}
@@ -16,7 +17,6 @@ use Rattle.ground_rules.specs.declared.Channel.{Channel}
 use Rattle.transfer_rules.specs.Reads.{fetched, fetched_second, entry_of, delivered, data_of, also, read_places}
 use Rattle.transfer_rules.specs.Sides.{source, destination, second_address, two_move}
 use Rattle.ground_rules.specs.Updates.{holding}
-use Rattle.ground_rules.specs.declared.Held.TheVariants.{Byte}
 use Rattle.transfer_rules.proofs.PartLaws.{second-fetch-apart, first-store-apart, stores-two, word-stored}
 use Rattle.transfer_rules.proofs.StepLaws.{chain_by, outcome-5, two-plain}
 use Rattle.transfer_rules.specs.Halves.{first_place, second_place, word_with}
@@ -196,7 +196,7 @@ module _ (c : Channel) (m : Buffers) where
     stores = [];
     placed = refl;
     list = λ n h. refl;
-    channel = λ good n h. ap (λ (v : ℕ). holding c (Byte v)) h.0;
+    channel = λ good n h. ap (λ (v : ℕ). holding c (Some v)) h.0;
     memory = λ good n h. refl;
   }
 
@@ -218,7 +218,7 @@ module _ (c : Channel) (m : Buffers) where
     stores = record { place = first_place (destination c); value = (data_of c m).first } ∷ [];
     placed = refl;
     list = λ n h. refl;
-    channel = λ good n h. ap₂ (λ d (v : ℕ). pick (first_meets c d) (moved_channel c d) (holding c (Byte v))) (same good n h) (second-again n h.1.0);
+    channel = λ good n h. ap₂ (λ d (v : ℕ). pick (first_meets c d) (moved_channel c d) (holding c (Some v))) (same good n h) (second-again n h.1.0);
     memory = λ good n h. ap (λ d. store_byte n (destination c).pointer.tag (destination c).pointer.address d.first) (same good n h);
   }
     where

@@ -1,5 +1,6 @@
 -- The premises of the halves' theorems can be met, in numbers: two fetches from a device at I/O address 16, two stores to it, and a first store that meets TMC.
 -- Assumes nothing.
+use Rattle.std.proofs.Common.{None, Some}
 use Prim.Native.Nat.{ℕ}
 use mathlib.Core.Bool.{Bool, true, false}
 use mathlib.Core.Path.{◌≡◌, refl, sym, ap, subst}
@@ -7,7 +8,6 @@ use Rattle.ground_rules.specs.Registers.{with_register}
 use Rattle.ground_rules.specs.States.{idle_channel, channel_of}
 use Rattle.ground_rules.specs.Updates.{holding}
 use Rattle.ground_rules.specs.declared.Channel.{Channel}
-use Rattle.ground_rules.specs.declared.Held.TheVariants.{NoByte, Byte}
 use Rattle.ground_rules.specs.declared.State.{State}
 use Rattle.ground_rules.specs.Buffers.{Buffers}
 use Rattle.ground_rules.specs.Values.{pointer}
@@ -28,10 +28,10 @@ lone c last = both_with c idle_channel last
 module _ (c : Channel) (m m' : Buffers) (byte : ℕ) where
   -- the channel between the halves: it holds the byte, no other register has changed, and it stepped last
   abbrev between : State
-  between = lone (holding c (Byte byte)) false
+  between = lone (holding c (Some byte)) false
 
   -- with DRQ up at both calls: a first half that is computed to leave this, and a second that is done, are a pair
-  pair : half_due c m ≡ true → c.held ≡ NoByte → bit c.psw 6 ≡ 1 → entry_number (lone c true) m 1 ≡ 0 → choice_of (lone c true) 1 ≡ Steps false
+  pair : half_due c m ≡ true → c.held ≡ None → bit c.psw 6 ≡ 1 → entry_number (lone c true) m 1 ≡ 0 → choice_of (lone c true) 1 ≡ Steps false
       → step_of (lone c true) m 1 ≡ stepped 0 between m' 1 Transfer → entry_number between m' 1 ≡ 0 → choice_of between 1 ≡ Steps false
       → (step_of between m' 1).number ≡ 0 → Halves false (lone c true) m 1 1
   unfolding channel_of both_with

@@ -1,5 +1,6 @@
 -- The leftover count, from the sheet of a transfer step: what one step makes of BC, and what BC says after calls in a row.
 -- Assumes nothing.
+use Rattle.std.proofs.Common.{Option, ℕ, None, Some}
 use Prim.Native.Nat.{ℕ, zero, suc, ◌+◌, ◌-◌, ◌%◌, ◌^◌, ◌/◌, ◌<◌, ◌≤◌}
 use borrow.Author.Tests.{ltb-true, ltb-false, eqb-false, eqb-true, not-true, eq-eqb, ne_eqb}
 use lib.Dec.{eqb, ltb, lit<}
@@ -11,8 +12,6 @@ use native.Mathlib.Nat.{mod-lt, add_assoc}
 use native.Mathlib.Omega.{arith}
 use Rattle.ground_rules.specs.States.{channel_of}
 use Rattle.ground_rules.specs.declared.Channel.{Channel}
-use Rattle.ground_rules.specs.declared.Held.{Held as HeldByte}
-use Rattle.ground_rules.specs.declared.Held.TheVariants.{NoByte, Byte}
 use Rattle.ground_rules.specs.declared.State.{State}
 use Rattle.ground_rules.specs.Buffers.{Buffers, store_byte}
 use Rattle.turn_rules.specs.Step.{step_of}
@@ -271,20 +270,20 @@ module _ (c : Channel) (m : Buffers) (after : Channel) (m' : Buffers) where
   unfolding Adds
   adds whole half = go (half_due c m) refl c.held refl (fetches_twice c m) refl (meets_in c m (first_byte c m)) refl
     where
-      go : (x : Bool) → half_due c m ≡ x → (h : HeldByte) → c.held ≡ h → (y : Bool) → fetches_twice c m ≡ y → (z : Bool) → meets_in c m (first_byte c m) ≡ z → Adds c m after
+      go : (x : Bool) → half_due c m ≡ x → (h : Option ℕ) → c.held ≡ h → (y : Bool) → fetches_twice c m ≡ y → (z : Bool) → meets_in c m (first_byte c m) ≡ z → Adds c m after
       go false ex h eh y ey z ez =
           inr (opens_as false (is_none c.held) stops_here ex refl refl, subst (λ (x : Bool). Falls c (fetched_count c m) (pick x 2 (stored_count c m)) after) (sym (closes_as false (is_none c.held) ex refl)) (whole-falls c m after m' (whole ex)))
-      go true ex (Byte byte) eh true ey z ez =
+      go true ex (Some byte) eh true ey z ez =
           inr (opens_as true false stops_here ex (ap is_none eh) refl, subst (λ (x : Bool). Falls c (fetched_count c m) (pick x 2 (stored_count c m)) after) (sym (closes_as true false ex (ap is_none eh))) (closed-falls c m after (from-fetches ey) _ (half.second_fetch byte ey eh).0))
-      go true ex (Byte byte) eh false ey z ez =
+      go true ex (Some byte) eh false ey z ez =
           let f = either_way (fetches_twice c m) (stores_twice c m) ex ey in
           inr (opens_as true false stops_here ex (ap is_none eh) refl, subst (λ (x : Bool). Falls c (fetched_count c m) (pick x 2 (stored_count c m)) after) (sym (closes_as true false ex (ap is_none eh))) (closed-falls c m after (both_left (two_go c m) _ (from-stores f)) _ (half.second_store byte f eh).0))
-      go true ex NoByte eh true ey z ez =
+      go true ex None eh true ey z ez =
           inl (opens_as true true false ex (ap is_none eh) (ap (λ (x : Bool). x && meets_in c m (first_byte c m)) (never_both (field c.cc 11 2) _ (singly c m) ey)), (half.first_fetch ey eh).0)
-      go true ex NoByte eh false ey true ez =
+      go true ex None eh false ey true ez =
           let f = either_way (fetches_twice c m) (stores_twice c m) ex ey in
           inr (opens_as true true true ex (ap is_none eh) (ap₂ (λ (x y : Bool). x && y) f ez), subst (λ (x : Bool). Falls c (fetched_count c m) (pick x 2 (stored_count c m)) after) (sym (closes_as true true ex (ap is_none eh))) (met-falls c m after (both_left (two_go c m) _ (from-stores f)) (from-stores f) ez (half.first_met f eh ez).0))
-      go true ex NoByte eh false ey false ez =
+      go true ex None eh false ey false ez =
           let f = either_way (fetches_twice c m) (stores_twice c m) ex ey in
           inl (opens_as true true false ex (ap is_none eh) (ap₂ (λ (x y : Bool). x && y) f ez), (half.first_store f eh ez).0)
 
@@ -343,11 +342,11 @@ pair-first c m after m' half due h first-half =
     stores : stores_twice c m ≡ true
     stores = either_way (fetches_twice c m) (stores_twice c m) due (apart-sides (from_word_side c m) (into_word_side c m) (not (not (eqb (field c.cc 3 2) 0) && eqb c.bc 1)) (eqb (field c.cc 11 2) 1) (both_left (singly c m) (meets_in c m (first_byte c m)) h))
 
-    none : (x : HeldByte) → c.held ≡ x → c.held ≡ NoByte
-    none NoByte e = e
-    none (Byte byte) e = apart (sym (ap₂ (λ (x y : Bool). x && not y) due (ap is_none e)) ∙ first-half)
+    none : (x : Option ℕ) → c.held ≡ x → c.held ≡ None
+    none None e = e
+    none (Some byte) e = apart (sym (ap₂ (λ (x y : Bool). x && not y) due (ap is_none e)) ∙ first-half)
 
-    free : c.held ≡ NoByte
+    free : c.held ≡ None
     free = none c.held refl
 
 pub leftover-sheet : (second : Bool) (s : State) (m : Buffers) (lines : ℕ) → LeftoverSheet second s m lines

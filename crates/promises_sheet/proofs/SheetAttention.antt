@@ -1,5 +1,6 @@
 -- The sheet of attention, from the definitions of its commands.
 -- Assumes nothing.
+use Rattle.std.proofs.Common.{Option, ℕ}
 use Prim.Native.Nat.{ℕ, zero, suc, ◌+◌, ◌*◌, ◌/◌, ◌%◌, ◌^◌, ◌<◌}
 use borrow.Author.Tests.{eqb-false}
 use lib.Dec.{eqb, lit<}
@@ -24,7 +25,6 @@ use Rattle.ground_rules.specs.Psw.{with_psw}
 use Rattle.ground_rules.specs.States.{channel_of, with_channel, block_of, busy_in, channel_number}
 use Rattle.ground_rules.specs.Updates.{with_control, stopped_psw, halted}
 use Rattle.ground_rules.specs.declared.Channel.{Channel}
-use Rattle.ground_rules.specs.declared.Held.{Held as HeldByte}
 use Rattle.ground_rules.specs.declared.Mode.{Mode}
 use Rattle.ground_rules.specs.declared.State.{State}
 use Rattle.ground_rules.proofs.PlaceLaws.{store-index, index-reduced, later, after}
@@ -225,7 +225,7 @@ module _ (b : Bool) (s : State) (m : Buffers) {code : ℕ} (x : Attends b s m co
       (sym (all_append (touchable_at m) (read_by k (block_of s b) pb) (stored_by k (block_of s b) pb)) ∙ both)
 
   -- the channel by its fields
-  control-left : {tp : Pointer} {pp psw tb xf : ℕ} {mode : Mode} {armed : Bool} {byte : HeldByte} → made.tp ≡ tp → made.pp ≡ pp → Made psw tb xf made.psw
+  control-left : {tp : Pointer} {pp psw tb xf : ℕ} {mode : Mode} {armed : Bool} {byte : Option ℕ} → made.tp ≡ tp → made.pp ≡ pp → Made psw tb xf made.psw
       → made.mode ≡ mode → made.armed ≡ armed → made.held ≡ byte → ControlLeft (ccw_at s m b) (channel_after s m b) tp pp psw tb xf mode armed byte
   unfolding with_control
   control-left {tp} {pp} {psw} {tb} {xf} {mode} {armed} {byte} h₁ h₂ h₃ h₄ h₅ h₆ = record {

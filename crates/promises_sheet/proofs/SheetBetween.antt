@@ -1,5 +1,6 @@
 -- What comes between the halves of a pair of transfer steps.
 -- Assumes nothing.
+use Rattle.std.proofs.Common.{Option, ℕ, Some}
 use Prim.Native.Nat.{ℕ, ◌+◌, ◌%◌}
 use lib.Dec.{eqb}
 use mathlib.Core.Bool.{Bool, true, false, not, ◌&&◌, ◌||◌}
@@ -12,8 +13,6 @@ use Rattle.ground_rules.specs.Outcomes.{Outcome}
 use Rattle.ground_rules.specs.States.{channel_of, channel_number}
 use Rattle.ground_rules.specs.Updates.{holding}
 use Rattle.ground_rules.specs.declared.Channel.{Channel}
-use Rattle.ground_rules.specs.declared.Held.{Held as HeldByte}
-use Rattle.ground_rules.specs.declared.Held.TheVariants.{Byte}
 use Rattle.ground_rules.specs.declared.Mode.{Mode}
 use Rattle.ground_rules.specs.declared.Pointer.{Pointer}
 use Rattle.ground_rules.specs.declared.State.{State}
@@ -102,7 +101,7 @@ found-again b s₀ _ (step {s = s} r m lines ne) = subst (FoundAgain (channel_of
 -- ---- how the pair ends
 
 -- a second half of a channel that is found again, but for the byte that the first came to hold, ends the pair of the first
-ends-first : (c d : Channel) (m n : Buffers) (held : HeldByte) (byte : ℕ) (after : Channel) → FoundAgain (holding c held) d
+ends-first : (c d : Channel) (m n : Buffers) (held : Option ℕ) (byte : ℕ) (after : Channel) → FoundAgain (holding c held) d
     → PairLeft d n 2 (meets_in d n byte) after → PairOver c m 2 (meets_in c m byte) d.tp d.psw d.mode after
 ends-first c d m n held byte after k l = record {
   ga = l.ga ∙ ap₂ (λ (cc : ℕ) (p : Pointer). pick (eqb (bit cc (pick (eqb (bit cc 10) 1) 15 14)) 1) (pointer_on p 2) p) k.cc k.ga;
@@ -154,10 +153,10 @@ module _ (b : Bool) (s : State) (m : Buffers) (lines : ℕ) (s' : State) (m' : B
       go false e = stores (sym (ap (λ (x : Bool). x || stores_twice c m) e) ∙ p.halves.due) (meets_in c m (first_byte c m)) refl
 
   -- so the second finds the first's channel and the byte
-  second-finds : FoundAgain (holding c (Byte byte)) d
+  second-finds : FoundAgain (holding c (Some byte)) d
   second-finds =
       let f = first_holds in
-      found-then (holding c (Byte byte)) (ran_channel b s m lines) d
+      found-then (holding c (Some byte)) (ran_channel b s m lines) d
       (record {
         ga = f.ga;
         gb = f.gb;
@@ -180,9 +179,9 @@ module _ (b : Bool) (s : State) (m : Buffers) (lines : ℕ) (s' : State) (m' : B
       l = (half-sheet b s' m' lines').half p.halves.next
 
       go : (x : Bool) → fetches_twice d m' ≡ x → PairOver c m 2 (meets_in c m byte) d.tp d.psw d.mode after
-      go true e = ends-first c d m m' (Byte byte) byte after second-finds (l.second_fetch byte e second-finds.held).0
+      go true e = ends-first c d m m' (Some byte) byte after second-finds (l.second_fetch byte e second-finds.held).0
       go false e =
-          ends-first c d m m' (Byte byte) byte after second-finds
+          ends-first c d m m' (Some byte) byte after second-finds
           (l.second_store byte (sym (ap (λ (x : Bool). x || stores_twice d m') e) ∙ p.still) second-finds.held).0
 
   -- both halves are steps of a running channel

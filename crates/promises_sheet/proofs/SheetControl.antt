@@ -1,5 +1,6 @@
 -- The sheet of NOP, SINTR, XFER, WID and HLT.
 -- Assumes nothing.
+use Rattle.std.proofs.Common.{Ok}
 use Prim.Native.Nat.{ℕ, ◌+◌, ◌<◌}
 use borrow.Author.Tests.{eq-eqb, ne_eqb}
 use lib.Dec.{eqb, lit<}
@@ -10,7 +11,6 @@ use native.Mathlib.Decide.{ℕ_discrete}
 use Rattle.instruction_rules.specs.Lengths.{data_length, displacement_length, length_of}
 use Rattle.instruction_rules.specs.Reading.{lookup}
 use Rattle.instruction_rules.specs.Table.{table}
-use Rattle.instruction_rules.specs.declared.Decoded.TheVariants.{Instruction}
 use Rattle.instruction_rules.specs.declared.Shape.{Shape}
 use Rattle.instruction_rules.specs.declared.Shape.TheVariants.{Nop, Sintr, Xfer, Wid, Hlt}
 use Rattle.instruction_rules.specs.Execute.{performed, deed_of}
@@ -72,7 +72,7 @@ done-left l psw h k' e = record {
 }
 
 module _ {b : Bool} {s : State} {m : Buffers} {lines : ℕ} where
-  module _ {r op : ℕ} (x : PairRan b s m lines r 0 0 0 op 0) (shape : Shape) (small : op < 64) (reads : lookup table (pair_with r 0 0 0 op 0) ≡ Instruction shape) where
+  module _ {r op : ℕ} (x : PairRan b s m lines r 0 0 0 op 0) (shape : Shape) (small : op < 64) (reads : lookup table (pair_with r 0 0 0 op 0) ≡ Ok shape) where
     -- the channel after it
     control : (psw : ℕ) (mode : Mode) (armed : Bool) {status : ℕ → ℕ} → ((i : ℕ) → bit psw i ≡ status i)
         → (deed_in s m b shape).channel ≡ renewed (past_instruction (channel_of s b) 2) (past_instruction (channel_of s b) 2).tp (past_instruction (channel_of s b) 2).ix psw mode armed
@@ -145,7 +145,7 @@ control-sheet b s m lines = record {
     p₀ : ℕ
     p₀ = used_up c.armed c.psw
 
-    widths : (source destination : Bool) → lookup table (pair_with (4 + pick source 2 0 + pick destination 1 0) 0 0 0 0x00 0) ≡ Instruction (Wid source destination)
+    widths : (source destination : Bool) → lookup table (pair_with (4 + pick source 2 0 + pick destination 1 0) 0 0 0 0x00 0) ≡ Ok (Wid source destination)
     widths true true = refl
     widths true false = refl
     widths false true = refl

@@ -1,5 +1,6 @@
 -- Which instructions are done, and which refused, by the codes of the data sheet in numbers.
 -- Assumes nothing.
+use Rattle.std.proofs.Common.{Ok, Err}
 use Prim.Native.Nat.{ℕ, zero, suc, ◌+◌, ◌<◌}
 use borrow.Author.Tests.{eqb-false, eqb-true, ne_eqb}
 use lib.Dec.{eqb, lit<, eqb-suc-zero}
@@ -21,11 +22,11 @@ use Rattle.instruction_rules.specs.Execute.{decoded_at, Executed}
 use Rattle.instruction_rules.specs.MemoryForms.{second_at}
 use Rattle.instruction_rules.specs.Operands.{bytes_at}
 use Rattle.instruction_rules.specs.Pairs.{columns}
-use Rattle.instruction_rules.specs.Reading.{fits, lookup, decode_of, number_of, second_number_of}
+use Rattle.instruction_rules.specs.Reading.{fits, lookup, decode_of, decoded_number, second_number_of}
 use Rattle.instruction_rules.specs.Rows.{is_control}
 use Rattle.instruction_rules.specs.Table.{SummaryRow, table}
-use Rattle.instruction_rules.specs.declared.Decoded.{Decoded}
-use Rattle.instruction_rules.specs.declared.Decoded.TheVariants.{Instruction, NoInstruction, ControlUsed}
+use Rattle.instruction_rules.specs.Decoded.{Decoded}
+use Rattle.instruction_rules.specs.declared.Unread.TheVariants.{NoInstruction, ControlUsed}
 use Rattle.instruction_rules.specs.declared.Memory.{Memory}
 use Rattle.instruction_rules.specs.declared.Pair.{Pair}
 use Rattle.instruction_rules.specs.declared.Shape.{Shape}
@@ -68,9 +69,9 @@ moved (JumpBit e b o t) = []
 moved (Bit e b o) = []
 
 moved_in : Decoded → List Memory
-moved_in (Instruction s) = moved s
-moved_in NoInstruction = []
-moved_in ControlUsed = []
+moved_in (Ok s) = moved s
+moved_in (Err NoInstruction) = []
+moved_in (Err ControlUsed) = []
 
 -- whether of the rows with another opcode none makes it of a pair
 others : List SummaryRow → Pair → Bool
@@ -87,7 +88,7 @@ unfolding others lookup moved_in
 no_move [] p t n = refl
 no_move (r ∷ rs) p t n = go (fits r p) refl (r.control && is_control p) (no_move rs p (both_right (eqb r.opcode 0x24 || eqb (length (moved (r.shape p))) 0) (others rs p) t) n)
   where
-    go : (f : Bool) → fits r p ≡ f → (u : Bool) → length (moved_in (lookup rs p)) ≡ 0 → length (moved_in (pick f (pick u ControlUsed (Instruction (r.shape p))) (lookup rs p))) ≡ 0
+    go : (f : Bool) → fits r p ≡ f → (u : Bool) → length (moved_in (lookup rs p)) ≡ 0 → length (moved_in (pick f (pick u (Err ControlUsed) (Ok (r.shape p))) (lookup rs p))) ≡ 0
     go false h u rest = rest
     go true h true rest = refl
     go true h false rest =
@@ -107,7 +108,7 @@ module _ {b : Bool} {s : State} {m : Buffers} {lines r dd aa w op mm : ℕ} (x :
   reads = decoded x.executes.there (lit< tt) ∙ ap (lookup table) (pair_is r dd aa w op mm x.rrr x.two x.mode x.wide x.code x.base)
 
   -- its number is that of the codes
-  told : number_of (decoded_at m (channel_of s b).tp) ≡ pair_number b s m lines r dd aa w op mm
+  told : decoded_number (decoded_at m (channel_of s b).tp) ≡ pair_number b s m lines r dd aa w op mm
   told =
       let h₁ = x.rrr in
       let h₂ = x.two in
@@ -115,7 +116,7 @@ module _ {b : Bool} {s : State} {m : Buffers} {lines r dd aa w op mm : ℕ} (x :
       let h₄ = x.wide in
       let h₅ = x.code in
       let h₆ = x.base in
-      ap number_of (decoded x.executes.there (lit< tt)) ∙ decoder-codes.first-pairs _ _ (omega arith) (omega arith)
+      ap decoded_number (decoded x.executes.there (lit< tt)) ∙ decoder-codes.first-pairs _ _ (omega arith) (omega arith)
 
   settled : (n : ℕ) (o : Executed) → (settled_step n s m b o.channel o.memory Kind.Instruction).number ≡ n
   unfolding settled_step
@@ -131,14 +132,14 @@ module _ {b : Bool} {s : State} {m : Buffers} {lines r dd aa w op mm : ℕ} (x :
   there h = apart (sym (pair-touchable x.executes.there (lit< tt)) ∙ (told-exactly (told-touchable m (bytes_at (channel_of s b).tp 2))).1 h)
 
   -- what the pair is refused with
-  refuses : (d : Decoded) → decoded_at m (channel_of s b).tp ≡ d → ¬ (number_of d ≡ 0) → (step_of s m lines).number ≡ number_of d
-  refuses (Instruction shape) e ne = absurd (ne refl)
-  refuses NoInstruction e ne = own ∙ (number-exactly m (channel_of s b) (busy_in (block_of s b)) 3).1 (there, inl e)
-  refuses ControlUsed e ne =
-      own ∙ (number-exactly m (channel_of s b) (busy_in (block_of s b)) 4).1 (there, (λ n. eqb-false 4 3 refl (ap number_of (sym e ∙ n)), e))
+  refuses : (d : Decoded) → decoded_at m (channel_of s b).tp ≡ d → ¬ (decoded_number d ≡ 0) → (step_of s m lines).number ≡ decoded_number d
+  refuses (Ok shape) e ne = absurd (ne refl)
+  refuses (Err NoInstruction) e ne = own ∙ (number-exactly m (channel_of s b) (busy_in (block_of s b)) 3).1 (there, inl e)
+  refuses (Err ControlUsed) e ne =
+      own ∙ (number-exactly m (channel_of s b) (busy_in (block_of s b)) 4).1 (there, (λ n. eqb-false 4 3 refl (ap decoded_number (sym e ∙ n)), e))
 
   -- what refuses neither itself nor its second pair is done, where its bytes may be touched
-  does : number_of (decoded_at m (channel_of s b).tp) ≡ 0 → ¬ (NoSecondPair (decoded_at m (channel_of s b).tp) m (channel_of s b)) → Free b s m lines → PairRan b s m lines r dd aa w op mm
+  does : decoded_number (decoded_at m (channel_of s b).tp) ≡ 0 → ¬ (NoSecondPair (decoded_at m (channel_of s b).tp) m (channel_of s b)) → Free b s m lines → PairRan b s m lines r dd aa w op mm
   does z second free = record { executes = x.executes; done = own ∙ zero-only; rrr = x.rrr; two = x.two; mode = x.mode; wide = x.wide; base = x.base }
     where
       zero-only : (executed_in s m b).number ≡ 0
@@ -148,13 +149,13 @@ module _ {b : Bool} {s : State} {m : Buffers} {lines r dd aa w op mm : ℕ} (x :
           ⊎_elim
           (⊎_elim (λ e. e) (λ e. apart (sym free ∙ (two-where m c busy).0 e)))
           (⊎_elim
-          (λ e. absurd (⊎_elim (λ n. eqb-false 3 0 refl (sym (ap number_of n) ∙ z)) (λ h. second h.1.1.1) ((number-exactly m c busy 3).0 e).1))
-          (λ e. absurd (eqb-false 4 0 refl (sym (ap number_of ((number-exactly m c busy 4).0 e).1.1) ∙ z))))
+          (λ e. absurd (⊎_elim (λ n. eqb-false 3 0 refl (sym (ap decoded_number n) ∙ z)) (λ h. second h.1.1.1) ((number-exactly m c busy 3).0 e).1))
+          (λ e. absurd (eqb-false 4 0 refl (sym (ap decoded_number ((number-exactly m c busy 4).0 e).1.1) ∙ z))))
           (one-of-four m c busy)
 
   -- CC used
-  control : lookup table pair ≡ ControlUsed → (step_of s m lines).number ≡ 4
-  control e = refuses ControlUsed (reads ∙ e) (eqb-false 4 0 refl)
+  control : lookup table pair ≡ Err ControlUsed → (step_of s m lines).number ≡ 4
+  control e = refuses (Err ControlUsed) (reads ∙ e) (eqb-false 4 0 refl)
 
 pub done-sheet : (second : Bool) (s : State) (m : Buffers) (lines : ℕ) → DoneSheet second s m lines
 unfolding lookup table moved_in moved
@@ -163,7 +164,7 @@ done-sheet b s m lines = record {
       does x (told x ∙ z)
       (λ h. eqb-false 1 0 refl (sym (ap (λ (d : Decoded). length (moved_in d)) (sym (reads x) ∙ h.1.0)) ∙ no_move table (pair_with r dd aa w op mm) (whole (pair_with r dd aa w op mm)) ne)) free;
   move_between = λ aa w mm aa₂ mm₂ ha hm x e f free.
-      does x (ap number_of (reads x)) (λ h. eqb-false 0 3 refl (ap second_number_of (sym (second_is m (channel_of s b) mm aa w aa₂ mm₂ x.mode x.wide ha hm e f) ∙ operand x h.0 h.1.0 ∙ h.1.1))) free;
+      does x (ap decoded_number (reads x)) (λ h. eqb-false 0 3 refl (ap second_number_of (sym (second_is m (channel_of s b) mm aa w aa₂ mm₂ x.mode x.wide ha hm e f) ∙ operand x h.0 h.1.0 ∙ h.1.1))) free;
   refused = λ r dd aa w op mm x ne. refuses x (decoded_at m (channel_of s b).tp) refl (λ z. ne (sym (told x) ∙ z)) ∙ told x;
   control_memory = memories;
   control_stored = stored;
@@ -172,7 +173,7 @@ done-sheet b s m lines = record {
   control_jump = jumps;
 }
   where
-    operand : {aa w mm : ℕ} → PairTurn b s m lines 0 0 aa w 0x24 mm → (o : Memory) → decoded_at m (channel_of s b).tp ≡ Instruction (MovMemory o)
+    operand : {aa w mm : ℕ} → PairTurn b s m lines 0 0 aa w 0x24 mm → (o : Memory) → decoded_at m (channel_of s b).tp ≡ Ok (MovMemory o)
         → second_at m (channel_of s b).tp (memory_with mm aa w) ≡ second_at m (channel_of s b).tp o
     operand {aa} {w} {mm} x o e = ap (λ (l : List Memory). second_at m (channel_of s b).tp (get_or l 0 o)) (ap moved_in (sym (reads x) ∙ e))
 

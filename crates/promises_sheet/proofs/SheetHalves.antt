@@ -1,5 +1,6 @@
 -- The sheet of the halves of a pair of transfer steps.
 -- Assumes nothing.
+use Rattle.std.proofs.Common.{Option, ℕ, None, Some}
 use Prim.Native.Nat.{ℕ, ◌+◌, ◌/◌, ◌%◌, ◌^◌, ◌<◌}
 use lib.Dec.{eqb, lit<}
 use lib.ListN.{length}
@@ -18,8 +19,6 @@ use Rattle.ground_rules.specs.Psw.{transferring}
 use Rattle.ground_rules.specs.States.{channel_of, with_channel, fields_agree, block_of, busy_in}
 use Rattle.ground_rules.specs.Updates.{with_transfer, holding}
 use Rattle.ground_rules.specs.declared.Channel.{Channel}
-use Rattle.ground_rules.specs.declared.Held.{Held as HeldByte}
-use Rattle.ground_rules.specs.declared.Held.TheVariants.{NoByte, Byte}
 use Rattle.ground_rules.specs.declared.State.{State}
 use Rattle.ground_rules.specs.Buffers.{Buffers, byte_at, store_byte}
 use Rattle.ground_rules.specs.Places.{Place}
@@ -144,17 +143,17 @@ module _ (c : Channel) (m : Buffers) where
   second-read two = rw two
 
 -- a channel that holds a byte more has no other register changed
-only-held : (c : Channel) (byte : ℕ) → OnlyHeld c (holding c (Byte byte))
+only-held : (c : Channel) (byte : ℕ) → OnlyHeld c (holding c (Some byte))
 only-held c byte = record { ga = refl; gb = refl; gc = refl; tp = refl; pp = refl; bc = refl; ix = refl; cc = refl; mc = refl; psw = refl; mode = refl; mark = refl; fields = refl }
 
 -- ---- the halves
 
 module _ (c : Channel) (m : Buffers) (h : fields_agree c ≡ true) where
   -- the part that is due
-  fetch-part : (held : HeldByte) → fetches_twice c m ≡ true → c.held ≡ held → part_of c ≡ fetch_part held
+  fetch-part : (held : Option ℕ) → fetches_twice c m ≡ true → c.held ≡ held → part_of c ≡ fetch_part held
   fetch-part held f n = fetch-due c held (fetch-bits c m h ∙ f) n
 
-  store-part : (held : HeldByte) → stores_twice c m ≡ true → c.held ≡ held → part_of c ≡ store_part held
+  store-part : (held : Option ℕ) → stores_twice c m ≡ true → c.held ≡ held → part_of c ≡ store_part held
   unfolding fetches_apart stores_apart
   store-part held f n = store-due c held (none (fetches_apart c) refl) (store-bits c m h ∙ f) n
     where
@@ -169,35 +168,35 @@ module _ (c : Channel) (m : Buffers) (h : fields_agree c ≡ true) where
   unfolding channel_by memory_by fetch_part store_part fetched put_on moved_memory word_with first_meets
   half-left = record {
     first_fetch = λ f n.
-        subst (λ (k : Part). OnlyHeld c (channel_by k c m) × ((channel_by k c m).held ≡ Byte (byte_at m (from_pointer c m).tag (from_pointer c m).address)) × (memory_by k c m ≡ m)) (sym (fetch-part NoByte f n))
-        (only-held c (fetched c m), ap (λ (p : Pointer). Byte (byte_at m p.tag p.address)) (from_bits c m h), refl);
+        subst (λ (k : Part). OnlyHeld c (channel_by k c m) × ((channel_by k c m).held ≡ Some (byte_at m (from_pointer c m).tag (from_pointer c m).address)) × (memory_by k c m ≡ m)) (sym (fetch-part None f n))
+        (only-held c (fetched c m), ap (λ (p : Pointer). Some (byte_at m p.tag p.address)) (from_bits c m h), refl);
     second_fetch = λ byte f n.
         let g = fetch-bits c m h ∙ f in
         let d = word_with byte c m in
-        subst (λ (k : Part). PairLeft c m 2 (meets_in c m byte) (channel_by k c m) × (memory_by k c m ≡ store_byte (store_byte m (into_pointer c m).tag (into_pointer c m).address byte) (into_pointer c m).tag (into_second c m) (byte_at m (from_pointer c m).tag (from_second c m)))) (sym (fetch-part (Byte byte) f n)) (
+        subst (λ (k : Part). PairLeft c m 2 (meets_in c m byte) (channel_by k c m) × (memory_by k c m ≡ store_byte (store_byte m (into_pointer c m).tag (into_pointer c m).address byte) (into_pointer c m).tag (into_second c m) (byte_at m (from_pointer c m).tag (from_second c m)))) (sym (fetch-part (Some byte) f n)) (
           subst (λ (b : Bool). PairLeft c m 2 b (moved_channel c d)) (meets-bits c m h byte) (subst (PairLeft c m 2 (meets_tmc c.fields.matchEnd c.mc byte)) (sym (second-fetched c m byte g)) (pair_left c m 2 _ h (fetches-two c g))),
           word-put byte g,
         );
     first_store = λ f n k.
         let g = store-bits c m h ∙ f in
-        subst (λ (k : Part). OnlyHeld c (channel_by k c m) × ((channel_by k c m).held ≡ Byte (byte_at m (from_pointer c m).tag (from_second c m))) × (memory_by k c m ≡ store_byte m (into_pointer c m).tag (into_pointer c m).address (first_byte c m))) (sym (store-part NoByte f n))
-        (subst (λ (b : Bool). OnlyHeld c (stores b) × ((stores b).held ≡ Byte (byte_at m (from_pointer c m).tag (from_second c m))) × (one ≡ store_byte m (into_pointer c m).tag (into_pointer c m).address (first_byte c m))) (sym (first-meets ∙ k))
-        (only-held c (fetched_second c m), ap Byte (second-read c m (stores-two c g) ∙ second_from), one-put));
+        subst (λ (k : Part). OnlyHeld c (channel_by k c m) × ((channel_by k c m).held ≡ Some (byte_at m (from_pointer c m).tag (from_second c m))) × (memory_by k c m ≡ store_byte m (into_pointer c m).tag (into_pointer c m).address (first_byte c m))) (sym (store-part None f n))
+        (subst (λ (b : Bool). OnlyHeld c (stores b) × ((stores b).held ≡ Some (byte_at m (from_pointer c m).tag (from_second c m))) × (one ≡ store_byte m (into_pointer c m).tag (into_pointer c m).address (first_byte c m))) (sym (first-meets ∙ k))
+        (only-held c (fetched_second c m), ap Some (second-read c m (stores-two c g) ∙ second_from), one-put));
     first_met = λ f n k.
         let g = store-bits c m h ∙ f in
-        subst (λ (k : Part). PairLeft c m 1 true (channel_by k c m) × (memory_by k c m ≡ store_byte m (into_pointer c m).tag (into_pointer c m).address (first_byte c m))) (sym (store-part NoByte f n))
+        subst (λ (k : Part). PairLeft c m 1 true (channel_by k c m) × (memory_by k c m ≡ store_byte m (into_pointer c m).tag (into_pointer c m).address (first_byte c m))) (sym (store-part None f n))
         (subst (λ (b : Bool). PairLeft c m 1 true (stores b) × (one ≡ store_byte m (into_pointer c m).tag (into_pointer c m).address (first_byte c m))) (sym (first-meets ∙ k))
         (subst (PairLeft c m 1 true) (sym (first-met c m g (first-meets ∙ k))) (pair_left c m 1 true h (stores-two c g)), one-put));
     second_store = λ byte f n.
         let met = meets_tmc c.fields.matchEnd c.mc byte in
-        subst (λ (k : Part). PairLeft c m 2 (meets_in c m byte) (channel_by k c m) × (memory_by k c m ≡ store_byte m (into_pointer c m).tag (into_second c m) byte)) (sym (store-part (Byte byte) f n)) (
+        subst (λ (k : Part). PairLeft c m 2 (meets_in c m byte) (channel_by k c m) × (memory_by k c m ≡ store_byte m (into_pointer c m).tag (into_second c m) byte)) (sym (store-part (Some byte) f n)) (
           subst (λ (b : Bool). PairLeft c m 2 b (move_over c 2 met)) (meets-bits c m h byte) (pair_left c m 2 met h (stores-two c (store-bits c m h ∙ f))),
           ap₂ (λ (p : Pointer) (a : ℕ). store_byte m p.tag a byte) (into-bits c m h) (into-second-bits c m h),
         );
   }
     where
       stores : Bool → Channel
-      stores b = pick b (moved_channel c (data_of c m)) (holding c (Byte (fetched_second c m)))
+      stores b = pick b (moved_channel c (data_of c m)) (holding c (Some (fetched_second c m)))
 
       one : Buffers
       one = store_byte m (destination c).pointer.tag (destination c).pointer.address (data_of c m).first
@@ -221,10 +220,10 @@ module _ (c : Channel) (m : Buffers) (h : fields_agree c ≡ true) where
   touches : HalfTouches c m
   unfolding touched_by_transfer touched_by fetch_part store_part places_on also
   touches = record {
-    first_fetch = λ f n. ap (λ (k : Part). touched_by k c m) (fetch-part NoByte f n) ∙ ap (λ (p : Pointer). record { tag = p.tag; address = p.address } ∷ []) (from_bits c m h);
-    second_fetch = λ byte f n. ap (λ (k : Part). touched_by k c m) (fetch-part (Byte byte) f n) ∙ three;
-    first_store = λ f n. ap (λ (k : Part). touched_by k c m) (store-part NoByte f n) ∙ both;
-    second_store = λ byte f n. ap (λ (k : Part). touched_by k c m) (store-part (Byte byte) f n) ∙ ap₂ (λ (p : Pointer) (a : ℕ). record { tag = p.tag; address = a } ∷ []) (into-bits c m h) (into-second-bits c m h);
+    first_fetch = λ f n. ap (λ (k : Part). touched_by k c m) (fetch-part None f n) ∙ ap (λ (p : Pointer). record { tag = p.tag; address = p.address } ∷ []) (from_bits c m h);
+    second_fetch = λ byte f n. ap (λ (k : Part). touched_by k c m) (fetch-part (Some byte) f n) ∙ three;
+    first_store = λ f n. ap (λ (k : Part). touched_by k c m) (store-part None f n) ∙ both;
+    second_store = λ byte f n. ap (λ (k : Part). touched_by k c m) (store-part (Some byte) f n) ∙ ap₂ (λ (p : Pointer) (a : ℕ). record { tag = p.tag; address = a } ∷ []) (into-bits c m h) (into-second-bits c m h);
   }
     where
       at : Bool → ℕ → Place
@@ -247,7 +246,7 @@ module _ (c : Channel) (m : Buffers) (h : fields_agree c ≡ true) where
 -- a channel that holds a byte more moves as one that does not
 module _ (c : Channel) (m : Buffers) (byte : ℕ) where
   abbrev taken : Channel
-  taken = holding c (Byte byte)
+  taken = holding c (Some byte)
 
   held_moved : (x y : ℕ) → moved_channel taken (record { first = x; second = y }) ≡ moved_channel c (record { first = x; second = y })
   unfolding moved_channel move_over moved_by ended_by ended_tp ended_psw with_transfer end_code bytes_stored stores_two cut_short match_met first_meets stored_singly two_move word_side source destination
@@ -289,7 +288,7 @@ module _ (c : Channel) (m : Buffers) (good : bad_mode c ≡ false) (f : fetches_
 
   fetches-due : part_of fetched-first ≡ SecondFetch (fetched c m)
   unfolding fetch_part
-  fetches-due = fetch-due fetched-first (Byte (fetched c m)) (held-fetches c m (fetched c m) ∙ f) refl
+  fetches-due = fetch-due fetched-first (Some (fetched c m)) (held-fetches c m (fetched c m) ∙ f) refl
 
   fetches-channel : channel_by (SecondFetch (fetched c m)) fetched-first m ≡ moved_channel c (data_of c m)
   unfolding channel_by word_with
@@ -313,7 +312,7 @@ module _ (c : Channel) (m : Buffers) (f : stores_apart c ≡ true) (free : fetch
 
   stores-due : part_of stored-first ≡ SecondStore (fetched_second c m)
   unfolding store_part
-  stores-due = store-due stored-first (Byte (fetched_second c m)) (held-fetches c m (fetched_second c m) ∙ free) (held-stores c m (fetched_second c m) ∙ f) refl
+  stores-due = store-due stored-first (Some (fetched_second c m)) (held-fetches c m (fetched_second c m) ∙ free) (held-stores c m (fetched_second c m) ∙ f) refl
 
   stores-moved : moved_channel c (data_of c m) ≡ move_over c 2 (meets_tmc c.fields.matchEnd c.mc (fetched_second c m))
   unfolding moved_channel bytes_stored match_met data_of
@@ -328,12 +327,12 @@ module _ (c : Channel) (m : Buffers) (f : stores_apart c ≡ true) (free : fetch
   stores-memory = sym (ap (λ (b : Bool). pick b (store_byte stored_one (destination c).pointer.tag (second_address (destination c)) (fetched_second c m)) stored_one) (singly-stored c (data_of c m) f ∙ ap not unmet))
 
 -- a channel whose sides went on holds nothing
-moved-drops : (c : Channel) (m : Buffers) → (moved_channel c (data_of c m)).held ≡ NoByte
+moved-drops : (c : Channel) (m : Buffers) → (moved_channel c (data_of c m)).held ≡ None
 unfolding moved_channel move_over ended_by moved_by with_transfer
 moved-drops c m = refl
 
 -- a held byte is not none
-pub over-holds : {byte : ℕ} → Byte byte ≡ NoByte → ⊥
+pub over-holds : {byte : ℕ} → Some byte ≡ None → ⊥
 over-holds e = apart (sym (ap is_none e))
 
 no-transfer : (psw : ℕ) → bit psw 6 ≡ 0 → transferring psw ≡ false
@@ -404,7 +403,7 @@ module _ (b : Bool) (s : State) (m : Buffers) (lines lines' : ℕ) (v : Halves b
   by-fetches : fetches_apart c ≡ true → Joined
   unfolding channel_by memory_by fetch_part touched_by places_on also
   by-fetches f =
-      let first : part_of c ≡ FirstFetch = fetch-due c NoByte f v.free in
+      let first : part_of c ≡ FirstFetch = fetch-due c None f v.free in
       let ek : channel_of s₁ b ≡ fetched-first c m good f = done-channel b s m lines v.first ∙ ap (λ (k : Part). channel_by k c m) first in
       let en : m₁ ≡ m = done-memory b s m lines v.first ∙ ap (λ (k : Part). memory_by k c m) first in (
         whole_of (fetched-first c m good f) m (SecondFetch (fetched c m)) ek en (fetches-due c m good f) (fetches-channel c m good f) (fetches-memory c m good f),
@@ -416,7 +415,7 @@ module _ (b : Bool) (s : State) (m : Buffers) (lines lines' : ℕ) (v : Halves b
   by-stores free f = go (first_meets c (data_of c m)) refl
     where
       first : part_of c ≡ FirstStore
-      first = store-due c NoByte free f v.free
+      first = store-due c None free f v.free
 
       after : channel_of s₁ b ≡ pick (first_meets c (data_of c m)) (moved_channel c (data_of c m)) (taken c m (fetched_second c m))
       after = done-channel b s m lines v.first ∙ ap (λ (k : Part). channel_by k c m) first

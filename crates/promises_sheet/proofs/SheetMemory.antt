@@ -1,5 +1,6 @@
 -- The sheet of the memory instructions: stores, work in memory, bits, jumps on memory, TSL and CALL.
 -- Assumes nothing.
+use Rattle.std.proofs.Common.{Ok, Some, None}
 use Prim.Native.Nat.{ℕ, zero, suc, ◌+◌, ◌*◌, ◌/◌, ◌%◌, ◌^◌, ◌<◌}
 use borrow.Author.Tests.{eq-eqb, ne_eqb, lt-ltb}
 use lib.Bits.{bit_and, bit_xor}
@@ -15,8 +16,6 @@ use Rattle.instruction_rules.specs.Reading.{lookup, second_of}
 use Rattle.instruction_rules.specs.Table.{table}
 use Rattle.instruction_rules.specs.Pairs.{memory_of, columns}
 use Rattle.instruction_rules.specs.Pairs.Column.{'0, '1, '00, '000, 'AA, 'MM}
-use Rattle.instruction_rules.specs.declared.Decoded.TheVariants.{Instruction}
-use Rattle.instruction_rules.specs.declared.Second.TheVariants.{Operand, NoSecond}
 use Rattle.instruction_rules.specs.declared.Pair.{Pair}
 use Rattle.instruction_rules.specs.declared.Shape.{Shape}
 use Rattle.instruction_rules.specs.declared.Shape.TheVariants.{MemoryRegister, MemoryImmediate, MemoryAlone, JumpMemory, MovpStore, MovMemory, Tsl, Call, JumpMasked, JumpBit, Bit}
@@ -228,7 +227,7 @@ worked-is m c work j works aa w mm k v ha hw hm =
     ∙ ap (result_to at (eqb w 1)) (works (operand_in m (base_tag c mm) (operand_address m c mm aa) w) v)
 
 module _ {b : Bool} {s : State} {m : Buffers} {lines r dd aa w op mm : ℕ} (x : PairRan b s m lines r dd aa w op mm) (shape : Shape) (small : op < 64)
-    (reads : lookup table (pair_with r dd aa w op mm) ≡ Instruction shape) where
+    (reads : lookup table (pair_with r dd aa w op mm) ≡ Ok shape) where
   -- a deed that writes no register and stores bytes
   stores : {tp ix : ℕ} {k : Channel} {bytes : List ℕ} (ch : Change) → RegistersLeft (channel_of s b) k (registers_at (channel_of s b) tp ix) (tags_of (channel_of s b))
       → (deed_in s m b shape).channel ≡ k → (deed_in s m b shape).change ≡ ch
@@ -261,7 +260,7 @@ module _ {b : Bool} {s : State} {m : Buffers} {lines : ℕ} where
 
   module _ (work : Work) (j : ℕ) (works : (x y : ℕ) → work_of work x y ≡ get_or (works_of x y) j 0) where
     -- MOV, ADD, OR, AND M,R
-    work-register : (r aa w op mm : ℕ) → op < 64 → lookup table (pair_with r 0 aa w op mm) ≡ Instruction (MemoryRegister work r (memory_with mm aa w)) → PairRan b s m lines r 0 aa w op mm
+    work-register : (r aa w op mm : ℕ) → op < 64 → lookup table (pair_with r 0 aa w op mm) ≡ Ok (MemoryRegister work r (memory_with mm aa w)) → PairRan b s m lines r 0 aa w op mm
         → Stores b s m lines mm aa
         (result_bytes (get_or (works_of (operand_in m (base_tag (channel_of s b) mm) (operand_address m (channel_of s b) mm aa) w) (value_past (channel_of s b) (2 + offset_bytes aa) r)) j 0) w)
         (past_by (channel_of s b) (2 + offset_bytes aa)) (grown_by (channel_of s b).ix aa (w + 1))
@@ -280,7 +279,7 @@ module _ {b : Bool} {s : State} {m : Buffers} {lines : ℕ} where
         (result-left m (base_tag c mm) (operand_address m c mm aa) v w x.wide)
 
     -- MOVI, ADDI, ORI, ANDI M,I
-    work-data : (aa w op mm : ℕ) → op < 64 → lookup table (pair_with 0 (w + 1) aa w op mm) ≡ Instruction (MemoryImmediate work (memory_with mm aa w)) → PairRan b s m lines 0 (w + 1) aa w op mm
+    work-data : (aa w op mm : ℕ) → op < 64 → lookup table (pair_with 0 (w + 1) aa w op mm) ≡ Ok (MemoryImmediate work (memory_with mm aa w)) → PairRan b s m lines 0 (w + 1) aa w op mm
         → Stores b s m lines mm aa
         (result_bytes (get_or (works_of (operand_in m (base_tag (channel_of s b) mm) (operand_address m (channel_of s b) mm aa) w)
         (operand_in m (channel_of s b).tp.tag ((channel_of s b).tp.address + (2 + offset_bytes aa)) w)) j 0) w)
@@ -301,7 +300,7 @@ module _ {b : Bool} {s : State} {m : Buffers} {lines : ℕ} where
 
   -- NOT, INC, DEC M
   alone : (single : Single) (j aa w op mm : ℕ) → op < 64 → ((a : ℕ) → single_of single a ≡ get_or (singles_of a) j 0)
-      → lookup table (pair_with 0 0 aa w op mm) ≡ Instruction (MemoryAlone single (memory_with mm aa w)) → PairRan b s m lines 0 0 aa w op mm
+      → lookup table (pair_with 0 0 aa w op mm) ≡ Ok (MemoryAlone single (memory_with mm aa w)) → PairRan b s m lines 0 0 aa w op mm
       → Stores b s m lines mm aa
       (result_bytes (get_or (singles_of (operand_in m (base_tag (channel_of s b) mm) (operand_address m (channel_of s b) mm aa) w)) j 0) w)
       (past_by (channel_of s b) (2 + offset_bytes aa)) (grown_by (channel_of s b).ix aa (w + 1))
@@ -321,7 +320,7 @@ module _ {b : Bool} {s : State} {m : Buffers} {lines : ℕ} where
       (result-left m (base_tag c mm) (operand_address m c mm aa) v w x.wide)
 
   -- SETB, CLR
-  set-bit : (on : Bool) (r aa op mm : ℕ) → op < 64 → lookup table (pair_with r 0 aa 0 op mm) ≡ Instruction (Bit on r (memory_with mm aa 0)) → PairRan b s m lines r 0 aa 0 op mm
+  set-bit : (on : Bool) (r aa op mm : ℕ) → op < 64 → lookup table (pair_with r 0 aa 0 op mm) ≡ Ok (Bit on r (memory_with mm aa 0)) → PairRan b s m lines r 0 aa 0 op mm
       → Stores b s m lines mm aa
       ((byte_operand b s m lines mm aa / 2 ^ (r + 1) * 2 ^ (r + 1) + pick on (2 ^ r) 0 + byte_operand b s m lines mm aa % 2 ^ r) % 256 ∷ [])
       (past_by (channel_of s b) (2 + offset_bytes aa)) (grown_by (channel_of s b).ix aa 1)
@@ -341,7 +340,7 @@ module _ {b : Bool} {s : State} {m : Buffers} {lines : ℕ} where
 
   -- jumps on memory
   module _ (shape : Shape) (dd r aa w op mm by : ℕ) (two taken taken' : Bool) (small : op < 64)
-      (reads : lookup table (pair_with r dd aa w op mm) ≡ Instruction shape) (x : PairRan b s m lines r dd aa w op mm) where
+      (reads : lookup table (pair_with r dd aa w op mm) ≡ Ok shape) (x : PairRan b s m lines r dd aa w op mm) where
     jumps : taken ≡ taken'
         → (deed_in s m b shape).channel ≡ jumped_if taken m (grown (past_instruction (channel_of s b) (2 + offset_bytes aa + dd_of two)) (memory_with mm aa w) by) (onward (channel_of s b).tp (2 + offset_bytes aa)) two
         → changed m (deed_in s m b shape).change ≡ m
@@ -356,7 +355,7 @@ module _ {b : Bool} {s : State} {m : Buffers} {lines : ℕ} where
         f g
 
   -- JZ M, JNZ M
-  jump : (z two : Bool) (aa w op mm : ℕ) → op < 64 → lookup table (pair_with 0 (dd_of two) aa w op mm) ≡ Instruction (JumpMemory z (memory_with mm aa w) two)
+  jump : (z two : Bool) (aa w op mm : ℕ) → op < 64 → lookup table (pair_with 0 (dd_of two) aa w op mm) ≡ Ok (JumpMemory z (memory_with mm aa w) two)
       → PairRan b s m lines 0 (dd_of two) aa w op mm
       → Goes b s m lines
       (landed b s m lines (whether z (eqb (raw_in m (base_tag (channel_of s b) mm) (operand_address m (channel_of s b) mm aa) w) 0)) aa two)
@@ -379,7 +378,7 @@ module _ {b : Bool} {s : State} {m : Buffers} {lines : ℕ} where
 
   -- a byte that is tested
   module _ (shape : Shape) (test : ℕ → Bool) (r aa op mm : ℕ) (two : Bool) (small : op < 64)
-      (reads : lookup table (pair_with r (dd_of two) aa 0 op mm) ≡ Instruction shape) (x : PairRan b s m lines r (dd_of two) aa 0 op mm) where
+      (reads : lookup table (pair_with r (dd_of two) aa 0 op mm) ≡ Ok shape) (x : PairRan b s m lines r (dd_of two) aa 0 op mm) where
     jump-byte : (deed_in s m b shape).channel
         ≡ jumped_if (test (byte_at m (effective m (past_instruction (channel_of s b) (2 + pick (eqb aa 1) 1 0 + 0 + (1 + pick two 1 0))) (memory_with mm aa 0) (channel_of s b).tp).tag
         (effective m (past_instruction (channel_of s b) (2 + pick (eqb aa 1) 1 0 + 0 + (1 + pick two 1 0))) (memory_with mm aa 0) (channel_of s b).tp).address)) m
@@ -399,7 +398,7 @@ module _ {b : Bool} {s : State} {m : Buffers} {lines : ℕ} where
         g
 
   -- JMCE, JMCNE
-  jump-masked : (equal two : Bool) (aa op mm : ℕ) → op < 64 → lookup table (pair_with 0 (dd_of two) aa 0 op mm) ≡ Instruction (JumpMasked equal (memory_with mm aa 0) two)
+  jump-masked : (equal two : Bool) (aa op mm : ℕ) → op < 64 → lookup table (pair_with 0 (dd_of two) aa 0 op mm) ≡ Ok (JumpMasked equal (memory_with mm aa 0) two)
       → PairRan b s m lines 0 (dd_of two) aa 0 op mm
       → Goes b s m lines
       (landed b s m lines (whether equal (eqb (bit_and (bit_xor (byte_operand b s m lines mm aa) ((channel_of s b).mc % 256)) ((channel_of s b).mc / 256 % 256)) 0)) aa two)
@@ -410,7 +409,7 @@ module _ {b : Bool} {s : State} {m : Buffers} {lines : ℕ} where
       (λ y. whether equal (eqb (bit_and (bit_xor y ((channel_of s b).mc % 256)) ((channel_of s b).mc / 256 % 256)) 0)) 0 aa op mm two small reads x refl refl
 
   -- JBT, JNBT
-  jump-bit : (set two : Bool) (r aa op mm : ℕ) → op < 64 → lookup table (pair_with r (dd_of two) aa 0 op mm) ≡ Instruction (JumpBit set r (memory_with mm aa 0) two)
+  jump-bit : (set two : Bool) (r aa op mm : ℕ) → op < 64 → lookup table (pair_with r (dd_of two) aa 0 op mm) ≡ Ok (JumpBit set r (memory_with mm aa 0) two)
       → PairRan b s m lines r (dd_of two) aa 0 op mm
       → Goes b s m lines (landed b s m lines (whether set (eqb (bit (byte_operand b s m lines mm aa) r) 1)) aa two) (grown_by (channel_of s b).ix aa 1)
   unfolding deed_of performed jump_bit_deed jump_byte_deed bit_of changed length_of data_length displacement_length
@@ -462,7 +461,7 @@ module _ {b : Bool} {s : State} {m : Buffers} {lines : ℕ} where
       (rw taken)
 
   -- CALL
-  call : (two : Bool) (aa w mm : ℕ) → lookup table (pair_with 4 (dd_of two) aa w 0x27 mm) ≡ Instruction (Call (memory_with mm aa w) two)
+  call : (two : Bool) (aa w mm : ℕ) → lookup table (pair_with 4 (dd_of two) aa w 0x27 mm) ≡ Ok (Call (memory_with mm aa w) two)
       → PairRan b s m lines 4 (dd_of two) aa w 0x27 mm
       → Stores b s m lines mm aa (form_of (past_pair b s m lines aa (dd_of two)) (channel_of s b).tp.tag)
       (landed b s m lines true aa two) (grown_by (channel_of s b).ix aa 3)
@@ -483,14 +482,14 @@ module _ {b : Bool} {s : State} {m : Buffers} {lines : ℕ} where
 -- the second pair
 pub second_is : (m : Buffers) (c : Channel) (mm aa w aa₂ mm₂ : ℕ) → aa < 4 → w < 2 → aa₂ < 4 → mm₂ < 4
     → code_byte m c (2 + offset_bytes aa) ≡ aa₂ * 2 + w → code_byte m c (2 + offset_bytes aa + 1) ≡ 0x33 * 4 + mm₂
-    → second_at m c.tp (memory_with mm aa w) ≡ Operand (memory_with mm₂ aa₂ w)
+    → second_at m c.tp (memory_with mm aa w) ≡ Some (memory_with mm₂ aa₂ w)
 unfolding second_at second_of onward
 second_is m c mm aa w aa₂ mm₂ ha hw ha₂ hm₂ e f =
     ap₂ (λ (x y : ℕ). second_of x y (eqb w 1))
     (ap (λ (p : Pointer). byte_at m p.tag p.address) (behind-is c mm aa w ha) ∙ byte-reduced m c.tp.tag (c.tp.address + (2 + offset_bytes aa)) ∙ e ∙ plain)
     (ap (λ (p : Pointer). byte_at m p.tag p.address) (ap (λ (p : Pointer). onward p 1) (behind-is c mm aa w ha) ∙ onward-more c.tp (2 + offset_bytes aa) 1)
     ∙ byte-reduced m c.tp.tag (c.tp.address + (2 + offset_bytes aa + 1)) ∙ f)
-    ∙ ap (λ (p : Pair). pick (eqb p.opcode 0x33 && columns '000 '00 'AA (pick (eqb w 1) '1 '0) 'MM p) (Operand (memory_of p)) NoSecond)
+    ∙ ap (λ (p : Pair). pick (eqb p.opcode 0x33 && columns '000 '00 'AA (pick (eqb w 1) '1 '0) 'MM p) (Some (memory_of p)) None)
     (pair_is 0 0 aa₂ w 0x33 mm₂ (lit< tt) (lit< tt) ha₂ hw (lit< tt) hm₂)
     ∙ go w hw
   where
@@ -498,8 +497,8 @@ second_is m c mm aa w aa₂ mm₂ ha hw ha₂ hm₂ e f =
     plain = omega arith
 
     go : (w : ℕ) → w < 2
-        → pick (eqb 0x33 0x33 && columns '000 '00 'AA (pick (eqb w 1) '1 '0) 'MM (pair_with 0 0 aa₂ w 0x33 mm₂)) (Operand (memory_of (pair_with 0 0 aa₂ w 0x33 mm₂))) NoSecond
-        ≡ Operand (memory_with mm₂ aa₂ w)
+        → pick (eqb 0x33 0x33 && columns '000 '00 'AA (pick (eqb w 1) '1 '0) 'MM (pair_with 0 0 aa₂ w 0x33 mm₂)) (Some (memory_of (pair_with 0 0 aa₂ w 0x33 mm₂))) None
+        ≡ Some (memory_with mm₂ aa₂ w)
     go zero h = refl
     go (suc zero) h = refl
     go (suc (suc k)) h = absurd (omega arith)
@@ -706,6 +705,6 @@ memory-sheet b s m lines = record {
     tested false true r aa mm x = jump-bit false true r aa 0x2E mm (lit< tt) refl x
     tested false false r aa mm x = jump-bit false false r aa 0x2E mm (lit< tt) refl x
 
-    calls : (two : Bool) (aa w mm : ℕ) → lookup table (pair_with 4 (dd_of two) aa w 0x27 mm) ≡ Instruction (Call (memory_with mm aa w) two)
+    calls : (two : Bool) (aa w mm : ℕ) → lookup table (pair_with 4 (dd_of two) aa w 0x27 mm) ≡ Ok (Call (memory_with mm aa w) two)
     calls true aa w mm = refl
     calls false aa w mm = refl

@@ -1,5 +1,6 @@
 -- What the rows of the sheet of instructions share: from the pair at TP to the deed that the step leaves, operands and registers by fields and numbers.
 -- Assumes nothing.
+use Rattle.std.proofs.Common.{Ok}
 use Prim.Native.Nat.{ℕ, zero, suc, ◌+◌, ◌-◌, ◌*◌, ◌/◌, ◌%◌, ◌^◌, ◌<◌}
 use borrow.Author.Tests.{eq-eqb, ne_eqb}
 use lib.Dec.{eqb, ltb, lit<, lit≤, eqb-suc-zero}
@@ -13,7 +14,6 @@ use native.Mathlib.Omega.{arith}
 use Rattle.instruction_rules.specs.Reading.{lookup, decode_of}
 use Rattle.instruction_rules.specs.Table.{table}
 use Rattle.instruction_rules.specs.Pairs.{pair_of}
-use Rattle.instruction_rules.specs.declared.Decoded.TheVariants.{Instruction}
 use Rattle.instruction_rules.specs.declared.Memory.{Memory}
 use Rattle.instruction_rules.specs.declared.Shape.{Shape}
 use Rattle.instruction_rules.specs.declared.Pair.{Pair}
@@ -73,9 +73,9 @@ abbrev pub deed_in : State → Buffers → Bool → Shape → Deed
 deed_in s m b shape = deed_of shape m (channel_of s b) (busy_in (block_of s b))
 
 module _ {b : Bool} {s : State} {m : Buffers} {lines r dd aa w op mm : ℕ} (x : PairRan b s m lines r dd aa w op mm) (shape : Shape) (small : op < 64)
-    (reads : lookup table (pair_with r dd aa w op mm) ≡ Instruction shape) where
+    (reads : lookup table (pair_with r dd aa w op mm) ≡ Ok shape) where
   -- the pair is decoded to the shape
-  shape_is : decoded_at m (channel_of s b).tp ≡ Instruction shape
+  shape_is : decoded_at m (channel_of s b).tp ≡ Ok shape
   unfolding decode_of
   shape_is =
       decoded x.executes.there (lit< tt)

@@ -1,5 +1,6 @@
 -- The sheet of the register instructions: LPD, LPDI, MOVP P,M, moves and work into a register, and jumps on one.
 -- Assumes nothing.
+use Rattle.std.proofs.Common.{Ok}
 use Prim.Native.Nat.{ℕ, zero, suc, ◌+◌, ◌%◌, ◌<◌}
 use lib.Dec.{eqb, lit<}
 use lib.ListN.{get_or}
@@ -10,7 +11,6 @@ use native.Mathlib.Omega.{arith}
 use Rattle.instruction_rules.specs.Lengths.{data_length, displacement_length, length_of}
 use Rattle.instruction_rules.specs.Reading.{lookup}
 use Rattle.instruction_rules.specs.Table.{table}
-use Rattle.instruction_rules.specs.declared.Decoded.TheVariants.{Instruction}
 use Rattle.instruction_rules.specs.declared.Memory.{Memory}
 use Rattle.instruction_rules.specs.declared.Shape.{Shape}
 use Rattle.instruction_rules.specs.declared.Shape.TheVariants.{Lpdi, RegisterImmediate, Register, JumpRegister, RegisterMemory, Lpd, MovpLoad}
@@ -71,7 +71,7 @@ unfolding grown past_instruction renewed onward
 tag-grown c n o by r h = tag_is (grown (past_instruction c n) o by) r h
 
 module _ {b : Bool} {s : State} {m : Buffers} {lines r dd aa w op mm : ℕ} (x : PairRan b s m lines r dd aa w op mm) (shape : Shape) (small : op < 64)
-    (reads : lookup table (pair_with r dd aa w op mm) ≡ Instruction shape) where
+    (reads : lookup table (pair_with r dd aa w op mm) ≡ Ok shape) where
   -- a deed that writes a register and no byte
   loads : {k : Channel} (n : ℕ) {ix : ℕ} (v : ℕ) (tag : Bool) → RegistersLeft (channel_of s b) k (registers_at (channel_of s b) (past_by (channel_of s b) n) ix) (tags_of (channel_of s b))
       → (deed_in s m b shape).channel ≡ with_register k r v tag → changed m (deed_in s m b shape).change ≡ m → Loads b s m lines r v tag n ix
@@ -148,7 +148,7 @@ module _ {b : Bool} {s : State} {m : Buffers} {lines : ℕ} where
 
   -- ADD, OR, AND, NOT R,M
   module _ (work : Work) (j : ℕ) (kept : is_move work ≡ false) (works : (x y : ℕ) → work_of work x y ≡ get_or (works_of x y) j 0) where
-    work-memory : (r aa w op mm : ℕ) → op < 64 → lookup table (pair_with r 0 aa w op mm) ≡ Instruction (RegisterMemory work r (memory_with mm aa w)) → PairRan b s m lines r 0 aa w op mm
+    work-memory : (r aa w op mm : ℕ) → op < 64 → lookup table (pair_with r 0 aa w op mm) ≡ Ok (RegisterMemory work r (memory_with mm aa w)) → PairRan b s m lines r 0 aa w op mm
         → Loads b s m lines r
         (get_or (works_of (value_past (channel_of s b) (2 + offset_bytes aa) r) (operand_in m (base_tag (channel_of s b) mm) (operand_address m (channel_of s b) mm aa) w)) j 0)
         (tag_in (channel_of s b) r) (2 + offset_bytes aa) (grown_by (channel_of s b).ix aa (w + 1))
@@ -168,7 +168,7 @@ module _ {b : Bool} {s : State} {m : Buffers} {lines : ℕ} where
         refl
 
     -- ADDI, ORI, ANDI R,I
-    work-data : (r w op : ℕ) → op < 64 → lookup table (pair_with r (w + 1) 0 w op 0) ≡ Instruction (RegisterImmediate work r (eqb w 1)) → length_of (RegisterImmediate work r (eqb w 1)) ≡ 3 + w
+    work-data : (r w op : ℕ) → op < 64 → lookup table (pair_with r (w + 1) 0 w op 0) ≡ Ok (RegisterImmediate work r (eqb w 1)) → length_of (RegisterImmediate work r (eqb w 1)) ≡ 3 + w
         → PairRan b s m lines r (w + 1) 0 w op 0
         → Loads b s m lines r
         (get_or (works_of (value_past (channel_of s b) (3 + w) r) (operand_in m (channel_of s b).tp.tag ((channel_of s b).tp.address + 2) w)) j 0)
@@ -187,7 +187,7 @@ module _ {b : Bool} {s : State} {m : Buffers} {lines : ℕ} where
         refl
 
   -- MOVI R,I
-  move-data : (r w : ℕ) → lookup table (pair_with r (w + 1) 0 w 0x0C 0) ≡ Instruction (RegisterImmediate Mov r (eqb w 1)) → length_of (RegisterImmediate Mov r (eqb w 1)) ≡ 3 + w
+  move-data : (r w : ℕ) → lookup table (pair_with r (w + 1) 0 w 0x0C 0) ≡ Ok (RegisterImmediate Mov r (eqb w 1)) → length_of (RegisterImmediate Mov r (eqb w 1)) ≡ 3 + w
       → PairRan b s m lines r (w + 1) 0 w 0x0C 0
       → Loads b s m lines r (operand_in m (channel_of s b).tp.tag ((channel_of s b).tp.address + 2) w) true (3 + w) (channel_of s b).ix
   unfolding deed_of performed register_immediate_deed register_written is_move work_of changed onward
@@ -201,7 +201,7 @@ module _ {b : Bool} {s : State} {m : Buffers} {lines : ℕ} where
 
   -- NOT, INC, DEC R
   alone : (single : Single) (j r op : ℕ) → op < 64 → ((a : ℕ) → single_of single a ≡ get_or (singles_of a) j 0)
-      → lookup table (pair_with r 0 0 0 op 0) ≡ Instruction (Register single r) → PairRan b s m lines r 0 0 0 op 0
+      → lookup table (pair_with r 0 0 0 op 0) ≡ Ok (Register single r) → PairRan b s m lines r 0 0 0 op 0
       → Loads b s m lines r (get_or (singles_of (value_past (channel_of s b) 2 r)) j 0) (tag_in (channel_of s b) r) 2 (channel_of s b).ix
   unfolding deed_of performed register_deed changed length_of data_length displacement_length
   alone single j r op small gives reads x =
@@ -212,7 +212,7 @@ module _ {b : Bool} {s : State} {m : Buffers} {lines : ℕ} where
       refl
 
   -- JZ R, JNZ R
-  jump : (z two : Bool) (r op : ℕ) → op < 64 → lookup table (pair_with r (dd_of two) 0 0 op 0) ≡ Instruction (JumpRegister z r two)
+  jump : (z two : Bool) (r op : ℕ) → op < 64 → lookup table (pair_with r (dd_of two) 0 0 op 0) ≡ Ok (JumpRegister z r two)
       → length_of (JumpRegister z r two) ≡ 2 + dd_of two → PairRan b s m lines r (dd_of two) 0 0 op 0
       → Goes b s m lines
       (pick (whether z (eqb (value_past (channel_of s b) (2 + dd_of two) r % 65536) 0))

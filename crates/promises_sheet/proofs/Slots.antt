@@ -1,5 +1,6 @@
 -- Empty card slots: the promises about them, and that they can be met in numbers.
 -- Assumes nothing.
+use Rattle.std.proofs.Common.{Ok, Err}
 use Prim.Native.Nat.{ℕ, zero, suc, ◌+◌, ◌%◌}
 use borrow.Author.Tests.{ltb-false, le-ltb, not-true}
 use lib.Dec.{eqb}
@@ -18,7 +19,7 @@ use Rattle.instruction_rules.specs.Reading.{fits, lookup, decode_of}
 use Rattle.instruction_rules.specs.Table.{SummaryRow, table}
 use Rattle.instruction_rules.specs.Pairs.{pair_of, meets}
 use Rattle.instruction_rules.specs.Rows.{is_control}
-use Rattle.instruction_rules.specs.declared.Decoded.TheVariants.{Instruction, NoInstruction, ControlUsed}
+use Rattle.instruction_rules.specs.declared.Unread.TheVariants.{NoInstruction, ControlUsed}
 use Rattle.instruction_rules.proofs.NumberLaws.{number-exactly}
 use Rattle.instruction_rules.specs.Conditions.{PairBeyond}
 use Rattle.instruction_rules.specs.Execute.{decoded_at, execute_of}
@@ -144,26 +145,26 @@ none_all_ones [] = true
 none_all_ones (r ∷ rs) = not (all_ones r) && none_all_ones rs
 
 -- so of no row is such a pair
-first-none : (rs : List SummaryRow) → none_all_ones rs ≡ true → (x : ℕ) → lookup rs (pair_of 0xFF x) ≡ NoInstruction
+first-none : (rs : List SummaryRow) → none_all_ones rs ≡ true → (x : ℕ) → lookup rs (pair_of 0xFF x) ≡ Err NoInstruction
 unfolding none_all_ones lookup
 first-none [] h x = refl
 first-none (r ∷ rs) h x =
     let p = pair_of 0xFF x in
-    ap (λ (b : Bool). pick b (pick (r.control && is_control p) ControlUsed (Instruction (r.shape p))) (lookup rs p))
+    ap (λ (b : Bool). pick b (pick (r.control && is_control p) (Err ControlUsed) (Ok (r.shape p))) (lookup rs p))
     (fits_not r x (not-true (all_ones r) (both_left (not (all_ones r)) (none_all_ones rs) h)))
     ∙ first-none rs (both_right (not (all_ones r)) (none_all_ones rs) h) x
 
-first-empty : (x : ℕ) → decode_of 0xFF x ≡ NoInstruction
+first-empty : (x : ℕ) → decode_of 0xFF x ≡ Err NoInstruction
 unfolding decode_of table none_all_ones
 first-empty x = first-none table refl x
 
 -- nor has a row opcode 3Fh
-second_empty : (x : ℕ) → decode_of x 0xFF ≡ NoInstruction
+second_empty : (x : ℕ) → decode_of x 0xFF ≡ Err NoInstruction
 unfolding decode_of table lookup pair_of field_of
 second_empty x = refl
 
 -- so a pair with either byte in an empty slot is none
-pair-none : (m : Buffers) (p : Pointer) → p.tag ≡ true → EmptySlot m p.address ⊎ EmptySlot m (p.address + 1) → decoded_at m p ≡ NoInstruction
+pair-none : (m : Buffers) (p : Pointer) → p.tag ≡ true → EmptySlot m p.address ⊎ EmptySlot m (p.address + 1) → decoded_at m p ≡ Err NoInstruction
 unfolding decoded_at onward
 pair-none m p t =
     rw t (⊎_elim

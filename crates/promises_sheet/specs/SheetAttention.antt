@@ -1,5 +1,5 @@
 -- The sheet of attention (§4): what each command leaves of its channel and of memory, by fields and numbers.
-use Rattle.std.specs.Prelude.{Bool, true, false, [], ◌∷◌, ◌++◌, ◌≡◌, ℕ, ◌+◌, ◌/◌, ◌%◌, ◌<◌, eqb, get_or}
+use Rattle.std.specs.Prelude.{Bool, true, false, [], ◌∷◌, ◌++◌, ◌≡◌, ℕ, ◌+◌, ◌/◌, ◌%◌, ◌<◌, eqb, get_or, Option, None}
 use Rattle.ground_rules.specs.Choice.{pick}
 use Rattle.ground_rules.specs.Buffers.{Buffers, byte_at}
 use Rattle.ground_rules.specs.Places.{Apart}
@@ -7,8 +7,6 @@ use Rattle.ground_rules.specs.Values.{pointer}
 use Rattle.ground_rules.specs.declared.Pointer.{Pointer}
 use Rattle.ground_rules.specs.States.{channel_of, channel_number}
 use Rattle.ground_rules.specs.declared.Channel.{Channel}
-use Rattle.ground_rules.specs.declared.Held.{Held as HeldByte}
-use Rattle.ground_rules.specs.declared.Held.TheVariants.{NoByte}
 use Rattle.ground_rules.specs.declared.Mode.{Mode}
 use Rattle.ground_rules.specs.declared.Mode.TheVariants.{Idle, Running, Suspended}
 use Rattle.ground_rules.specs.declared.State.{State}
@@ -60,7 +58,7 @@ pub record StatusLeft (ccw psw tb xf after : ℕ) : Type 0 where
   pub priority : bit after 7 ≡ bit ccw 7
 
 -- the channel after a command: TP with its tag, PP, PSW, mode, mark and the held byte
-pub record ControlLeft (ccw : ℕ) (after : Channel) (task : Pointer) (parameters psw tb xf : ℕ) (state : Mode) (armed : Bool) (byte : HeldByte) : Type 0 where
+pub record ControlLeft (ccw : ℕ) (after : Channel) (task : Pointer) (parameters psw tb xf : ℕ) (state : Mode) (armed : Bool) (byte : Option ℕ) : Type 0 where
   pub tp : after.tp ≡ task
   pub pp : after.pp ≡ parameters
   pub status : StatusLeft ccw psw tb xf after.psw
@@ -88,7 +86,7 @@ module _ (second : Bool) (s : State) (m : Buffers) where
   was = channel_of s second
 
   -- a command makes its channel so
-  abbrev pub Becomes : Pointer → ℕ → ℕ → ℕ → ℕ → Mode → Bool → HeldByte → Type 0
+  abbrev pub Becomes : Pointer → ℕ → ℕ → ℕ → ℕ → Mode → Bool → Option ℕ → Type 0
   Becomes tp pp psw tb xf mode armed byte = ControlLeft (ccw_at s m second) (channel_after s m second) tp pp psw tb xf mode armed byte
 
   -- it stores BUSY alone
@@ -103,11 +101,11 @@ module _ (second : Bool) (s : State) (m : Buffers) where
     pub update_memory : Attends second s m 0 → (outcome_to s m second).memory ≡ m
     -- 001: TP is PB's first word, with tag 1, and nothing is held (§4.5)
     pub start_local : Attends second s m 1
-        → Becomes (pointer (word_in m false (pb_at s m second)) true) (pb_at s m second) was.psw 1 0 Running false NoByte
+        → Becomes (pointer (word_in m false (pb_at s m second)) true) (pb_at s m second) was.psw 1 0 Running false None
     pub start_local_memory : Attends second s m 1 → Marks 0xFF
     -- 011: TP is PB's first two words as a doubleword pointer, with tag 0
     pub start_system : Attends second s m 3
-        → Becomes (pointer (far_in m false (pb_at s m second)) false) (pb_at s m second) was.psw 1 0 Running false NoByte
+        → Becomes (pointer (far_in m false (pb_at s m second)) false) (pb_at s m second) was.psw 1 0 Running false None
     pub start_system_memory : Attends second s m 3 → Marks 0xFF
     -- 110: TB and XF are 0, the mark and a held byte stay (§4.6)
     pub suspend : Attends second s m 6 → Becomes was.tp was.pp was.psw 0 0 Suspended was.armed was.held
@@ -118,7 +116,7 @@ module _ (second : Bool) (s : State) (m : Buffers) where
         (byte_at m false (was.pp + 3)) 1 (bit (byte_at m false (was.pp + 3)) 6) Running was.armed was.held
     pub resume_memory : Attends second s m 5 → Marks 0xFF
     -- 111: idle, TB and XF 0, without the mark, nothing held (§4.8)
-    pub halt : Attends second s m 7 → Becomes was.tp was.pp was.psw 0 0 Idle false NoByte
+    pub halt : Attends second s m 7 → Becomes was.tp was.pp was.psw 0 0 Idle false None
     pub halt_memory : Attends second s m 7 → Marks 0
     -- 010 and 100 are none (§4.2)
     pub none : ¬ (Attends second s m 2) × ¬ (Attends second s m 4)

@@ -1,11 +1,9 @@
 -- The sheet of the halves of a pair of transfer steps (§7.14): which bytes each touches, what it leaves, and both together.
-use Rattle.std.specs.Prelude.{Bool, true, false, not, ◌&&◌, [], ◌∷◌, ◌≡◌, ℕ, ◌+◌, ◌%◌, eqb}
+use Rattle.std.specs.Prelude.{Bool, true, false, not, ◌&&◌, [], ◌∷◌, ◌≡◌, ℕ, ◌+◌, ◌%◌, eqb, Option, None, Some}
 use Rattle.ground_rules.specs.Choice.{pick}
 use Rattle.ground_rules.specs.Buffers.{Buffers, byte_at, store_byte}
 use Rattle.ground_rules.specs.States.{channel_of, agree}
 use Rattle.ground_rules.specs.declared.Channel.{Channel}
-use Rattle.ground_rules.specs.declared.Held.{Held as HeldByte}
-use Rattle.ground_rules.specs.declared.Held.TheVariants.{NoByte, Byte}
 use Rattle.ground_rules.specs.declared.Mode.{Mode}
 use Rattle.ground_rules.specs.declared.Pointer.{Pointer}
 use Rattle.ground_rules.specs.declared.State.{State}
@@ -19,9 +17,9 @@ use Rattle.promises_sheet.specs.SheetTurns.{offset_in}
 use Rattle.promises_sheet.specs.SheetTransfer.{place_at, from_pointer, into_pointer, from_second, into_second, first_byte, meets_in, max_of, fetches_twice, stores_twice, half_due, Transfers, TransferLeft}
 
 -- nothing is held
-abbrev pub is_none : HeldByte → Bool
-is_none NoByte = true
-is_none (Byte byte) = false
+abbrev pub is_none : Option ℕ → Bool
+is_none None = true
+is_none (Some byte) = false
 
 -- ---- what a half leaves
 
@@ -68,7 +66,7 @@ pub record PairOver (c : Channel) (m : Buffers) (by : ℕ) (met : Bool) (task : 
   pub mc : after.mc ≡ c.mc
   pub mode : after.mode ≡ state
   pub mark : after.armed ≡ c.armed
-  pub held : after.held ≡ NoByte
+  pub held : after.held ≡ None
 
 -- these being the channel's own
 abbrev pub PairLeft : Channel → Buffers → ℕ → Bool → Channel → Type 0
@@ -77,44 +75,44 @@ PairLeft c m by met after = PairOver c m by met c.tp c.psw c.mode after
 -- a half of a channel's pair that is done
 pub record HalfLeft (c : Channel) (m : Buffers) (after : Channel) (m' : Buffers) : Type 0 where
   -- the first of two fetches takes the source's byte and holds it; no other register and no byte of memory changes
-  pub first_fetch : fetches_twice c m ≡ true → c.held ≡ NoByte
-      → OnlyHeld c after × (after.held ≡ Byte (byte_at m (from_pointer c m).tag (from_pointer c m).address)) × (m' ≡ m)
+  pub first_fetch : fetches_twice c m ≡ true → c.held ≡ None
+      → OnlyHeld c after × (after.held ≡ Some (byte_at m (from_pointer c m).tag (from_pointer c m).address)) × (m' ≡ m)
   -- the second reads one byte and stores the word: the held byte, at which TMC looks, and the one read
-  pub second_fetch : (byte : ℕ) → fetches_twice c m ≡ true → c.held ≡ Byte byte
+  pub second_fetch : (byte : ℕ) → fetches_twice c m ≡ true → c.held ≡ Some byte
       → PairLeft c m 2 (meets_in c m byte) after
       × (m'
       ≡ store_byte (store_byte m (into_pointer c m).tag (into_pointer c m).address byte) (into_pointer c m).tag (into_second c m)
       (byte_at m (from_pointer c m).tag (from_second c m)))
   -- the first of two stores reads both bytes and stores the first; it does not meet TMC: the second is held, and no other register changes
-  pub first_store : stores_twice c m ≡ true → c.held ≡ NoByte → meets_in c m (first_byte c m) ≡ false
-      → OnlyHeld c after × (after.held ≡ Byte (byte_at m (from_pointer c m).tag (from_second c m)))
+  pub first_store : stores_twice c m ≡ true → c.held ≡ None → meets_in c m (first_byte c m) ≡ false
+      → OnlyHeld c after × (after.held ≡ Some (byte_at m (from_pointer c m).tag (from_second c m)))
       × (m' ≡ store_byte m (into_pointer c m).tag (into_pointer c m).address (first_byte c m))
   -- it meets TMC: the transfer ends here, pointers on by 1, BC less 2
-  pub first_met : stores_twice c m ≡ true → c.held ≡ NoByte → meets_in c m (first_byte c m) ≡ true
+  pub first_met : stores_twice c m ≡ true → c.held ≡ None → meets_in c m (first_byte c m) ≡ true
       → PairLeft c m 1 true after × (m' ≡ store_byte m (into_pointer c m).tag (into_pointer c m).address (first_byte c m))
   -- the second stores the held byte, at which TMC looks, whatever the source holds now
-  pub second_store : (byte : ℕ) → stores_twice c m ≡ true → c.held ≡ Byte byte
+  pub second_store : (byte : ℕ) → stores_twice c m ≡ true → c.held ≡ Some byte
       → PairLeft c m 2 (meets_in c m byte) after × (m' ≡ store_byte m (into_pointer c m).tag (into_second c m) byte)
 
 -- ---- which bytes a half touches
 
 -- the bytes that a half reads or stores, at which 2 looks after 5 (§7.11), and at no others
 pub record HalfTouches (c : Channel) (m : Buffers) : Type 0 where
-  pub first_fetch : fetches_twice c m ≡ true → c.held ≡ NoByte
+  pub first_fetch : fetches_twice c m ≡ true → c.held ≡ None
       → touched_by_transfer c m ≡ place_at (from_pointer c m).tag (from_pointer c m).address ∷ []
-  pub second_fetch : (byte : ℕ) → fetches_twice c m ≡ true → c.held ≡ Byte byte
+  pub second_fetch : (byte : ℕ) → fetches_twice c m ≡ true → c.held ≡ Some byte
       → touched_by_transfer c m
       ≡ place_at (from_pointer c m).tag (from_second c m)
       ∷ place_at (into_pointer c m).tag (into_pointer c m).address
       ∷ place_at (into_pointer c m).tag (into_second c m)
       ∷ []
-  pub first_store : stores_twice c m ≡ true → c.held ≡ NoByte
+  pub first_store : stores_twice c m ≡ true → c.held ≡ None
       → touched_by_transfer c m
       ≡ place_at (from_pointer c m).tag (from_pointer c m).address
       ∷ place_at (from_pointer c m).tag (from_second c m)
       ∷ place_at (into_pointer c m).tag (into_pointer c m).address
       ∷ []
-  pub second_store : (byte : ℕ) → stores_twice c m ≡ true → c.held ≡ Byte byte
+  pub second_store : (byte : ℕ) → stores_twice c m ≡ true → c.held ≡ Some byte
       → touched_by_transfer c m ≡ place_at (into_pointer c m).tag (into_second c m) ∷ []
 
 -- ---- the calls
@@ -123,11 +121,11 @@ pub record HalfTouches (c : Channel) (m : Buffers) : Type 0 where
 pub record HalvesOf (second : Bool) (s : State) (m : Buffers) (lines : ℕ) (s' : State) (m' : Buffers) (lines' : ℕ) : Type 0 where
   -- a pair is due and nothing is held
   pub due : half_due (channel_of s second) m ≡ true
-  pub free : (channel_of s second).held ≡ NoByte
+  pub free : (channel_of s second).held ≡ None
   -- the first is done, and no match ends it: it holds a byte
   pub first : Transfers second s m lines
   pub byte : ℕ
-  pub holds : (ran_channel second s m lines).held ≡ Byte byte
+  pub holds : (ran_channel second s m lines).held ≡ Some byte
   -- the second is done
   pub next : Transfers second s' m' lines'
 
@@ -146,4 +144,4 @@ pub record HalfSheet (second : Bool) (s : State) (m : Buffers) (lines : ℕ) : T
       × (step_count s m lines + step_count (step_of s m lines).state (step_of s m lines).memory lines' ≡ 4)
   -- a done instruction leaves nothing held
   pub executes : HasTurn second s m lines → bit (channel_of s second).psw 6 ≡ 0 → (step_of s m lines).number ≡ 0
-      → (ran_channel second s m lines).held ≡ NoByte
+      → (ran_channel second s m lines).held ≡ None

@@ -1,5 +1,5 @@
 -- The sheet of a transfer step (§7): sides, bytes, ends, counts and the places it touches by bits of CC and PSW.
-use Rattle.std.specs.Prelude.{Bool, true, false, not, ◌&&◌, ◌||◌, List, [], ◌∷◌, ◌++◌, ◌≡◌, ℕ, ◌+◌, ◌-◌, ◌/◌, ◌%◌, eqb, ltb}
+use Rattle.std.specs.Prelude.{Bool, true, false, not, ◌&&◌, ◌||◌, List, [], ◌∷◌, ◌++◌, ◌≡◌, ℕ, ◌+◌, ◌-◌, ◌/◌, ◌%◌, eqb, ltb, None}
 use Rattle.std.specs.Int.Bits.{bit_and, bit_xor}
 use Rattle.ground_rules.specs.Choice.{pick}
 use Rattle.ground_rules.specs.Buffers.{Buffers, byte_at, store_byte}
@@ -7,7 +7,6 @@ use Rattle.ground_rules.specs.Places.{Place}
 use Rattle.ground_rules.specs.declared.Pointer.{Pointer}
 use Rattle.ground_rules.specs.States.{channel_of, agree}
 use Rattle.ground_rules.specs.declared.Channel.{Channel}
-use Rattle.ground_rules.specs.declared.Held.TheVariants.{NoByte}
 use Rattle.ground_rules.specs.declared.State.{State}
 use Rattle.transfer_rules.specs.Steps.{touched_by_transfer}
 use Rattle.turn_rules.specs.Step.{step_of}
@@ -138,7 +137,7 @@ pub record TransferLeft (c : Channel) (m : Buffers) (after : Channel) (m' : Buff
   pub mc : after.mc ≡ c.mc
   pub mode : after.mode ≡ c.mode
   pub mark : after.armed ≡ c.armed
-  pub held : after.held ≡ NoByte
+  pub held : after.held ≡ None
   pub stored : m'
       ≡ pick (two_stored c m)
       (store_byte (store_byte m (into_pointer c m).tag (into_pointer c m).address (first_byte c m)) (into_pointer c m).tag (into_second c m) (second_byte c m))

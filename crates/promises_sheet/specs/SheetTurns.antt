@@ -1,11 +1,10 @@
 -- The sheet of turns (§5): external ends, ranks and the choice by bits of CC, PSW and the line number, and what an external end leaves.
-use Rattle.std.specs.Prelude.{Bool, true, false, not, ◌&&◌, [], ◌∷◌, ◌≡◌, ℕ, ◌/◌, ◌%◌, eqb, ltb, get_or}
+use Rattle.std.specs.Prelude.{Bool, true, false, not, ◌&&◌, [], ◌∷◌, ◌≡◌, ℕ, ◌/◌, ◌%◌, eqb, ltb, get_or, None}
 use Rattle.ground_rules.specs.Choice.{pick}
 use Rattle.ground_rules.specs.Buffers.{Buffers}
 use Rattle.ground_rules.specs.Conditions.{FieldsDisagree}
 use Rattle.ground_rules.specs.States.{channel_of}
 use Rattle.ground_rules.specs.declared.Channel.{Channel}
-use Rattle.ground_rules.specs.declared.Held.TheVariants.{NoByte}
 use Rattle.ground_rules.specs.declared.Mode.{Mode}
 use Rattle.ground_rules.specs.declared.Mode.TheVariants.{Idle, Running, Suspended}
 use Rattle.ground_rules.specs.declared.State.{State}
@@ -70,7 +69,7 @@ pub record ExternalLeft (before after : Channel) : Type 0 where
   pub mc : after.mc ≡ before.mc
   pub mode : after.mode ≡ before.mode
   pub mark : after.armed ≡ before.armed
-  pub held : after.held ≡ NoByte
+  pub held : after.held ≡ None
 
 -- a step call; where the fields are not those of CC no choice is made, since 14 refuses it
 pub record TurnSheet (s : State) (m : Buffers) (lines : ℕ) : Type 0 where

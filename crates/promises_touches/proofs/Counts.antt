@@ -1,5 +1,6 @@
 -- A done call was told to touch as many places as it answers to have touched, and of no call more than eleven are told.
 -- Assumes nothing.
+use Rattle.std.proofs.Common.{Ok, Err}
 use Prim.Native.Nat.{ℕ, ◌+◌, ◌≤◌}
 use lib.Dec.{lit≤}
 use lib.ListN.{length, length-append}
@@ -26,8 +27,8 @@ use Rattle.instruction_rules.proofs.CountLaws.{deed-most, length-from}
 use Rattle.instruction_rules.specs.Changes.{places_of}
 use Rattle.instruction_rules.specs.Execute.{decoded_at, deed_from, later_from, stages_from, instruction_stages, touched_by_instruction}
 use Rattle.instruction_rules.specs.Operands.{bytes_at}
-use Rattle.instruction_rules.specs.declared.Decoded.{Decoded}
-use Rattle.instruction_rules.specs.declared.Decoded.TheVariants.{Instruction, NoInstruction, ControlUsed}
+use Rattle.instruction_rules.specs.Decoded.{Decoded}
+use Rattle.instruction_rules.specs.declared.Unread.TheVariants.{NoInstruction, ControlUsed}
 use Rattle.schedule_rules.proofs.StoreLaws.{touched-apart, stores-most}
 use Rattle.schedule_rules.specs.Counts.{stores_by}
 use Rattle.transfer_rules.specs.Parts.{Part, Whole, FirstFetch, SecondFetch, FirstStore, SecondStore, part_of}
@@ -123,9 +124,9 @@ module _ (c : Channel) (m : Buffers) where
           )
 
       go : (d : Decoded) → length (stages_places (stages_from d m c busy)) ≤ 11
-      go (Instruction s) = omega (arith, parts (Instruction s), deed-most m c busy (Instruction s), (length-from s c).0)
-      go NoInstruction = lit≤ tt
-      go ControlUsed = lit≤ tt
+      go (Ok s) = omega (arith, parts (Ok s), deed-most m c busy (Ok s), (length-from s c).0)
+      go (Err NoInstruction) = lit≤ tt
+      go (Err ControlUsed) = lit≤ tt
 
 all_moved : (c : Channel) (m : Buffers) → stages_places (transfer_stages c m) ≡ touched_by_transfer c m
 unfolding stages_places transfer_stages stages_by touched_by_transfer

@@ -1,6 +1,7 @@
 -- Where one round is enough and fetches nothing but what the call reads: a program in system space, a transfer step whose table is known; an attention and a power-up
 -- read system space alone and need none.
 -- Assumes nothing.
+use Rattle.std.proofs.Common.{Ok, Err}
 use Prim.Native.Nat.{ℕ, zero, suc, ◌+◌}
 use lib.Dec.{eqb}
 use mathlib.Core.Bool.{Bool, true, false, ◌&&◌}
@@ -26,8 +27,8 @@ use Rattle.attention_rules.specs.declared.Command.TheVariants.{Update, StartLoca
 use Rattle.attention_rules.specs.declared.Order.{Order}
 use Rattle.instruction_rules.specs.Execute.{decoded_at, later_bytes, later_from}
 use Rattle.instruction_rules.specs.Operands.{bytes_at}
-use Rattle.instruction_rules.specs.declared.Decoded.{Decoded}
-use Rattle.instruction_rules.specs.declared.Decoded.TheVariants.{Instruction, NoInstruction, ControlUsed}
+use Rattle.instruction_rules.specs.Decoded.{Decoded}
+use Rattle.instruction_rules.specs.declared.Unread.TheVariants.{NoInstruction, ControlUsed}
 use Rattle.transfer_rules.specs.Halves.{second_place}
 use Rattle.transfer_rules.specs.Parts.{Part, Whole, FirstFetch, SecondFetch, FirstStore, SecondStore, part_of}
 use Rattle.transfer_rules.specs.Reads.{also}
@@ -88,9 +89,9 @@ module _ (device have : Buffers) (w : Alongside device have) where
 
   later-system : (c : Channel) (d : Decoded) → c.tp.tag ≡ false → InSystem (later_from d c)
   unfolding later_from later_bytes onward
-  later-system c (Instruction s) e = system-span c.tp.tag _ _ e
-  later-system c NoInstruction e = tt
-  later-system c ControlUsed e = tt
+  later-system c (Ok s) e = system-span c.tp.tag _ _ e
+  later-system c (Err NoInstruction) e = tt
+  later-system c (Err ControlUsed) e = tt
 
   instruction-once : (c : Channel) (busy : ℕ) → c.tp.tag ≡ false → told_read_places (told_by_instruction have c busy) ≡ told_read_places (told_by_instruction device c busy)
   instruction-once c busy e =

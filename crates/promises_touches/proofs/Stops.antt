@@ -20,7 +20,7 @@ use Rattle.attention_rules.specs.Commands.{command_number}
 use Rattle.attention_rules.specs.declared.Order.{Order}
 use Rattle.instruction_rules.specs.Execute.{decoded_at, later_from}
 use Rattle.instruction_rules.specs.Operands.{bytes_at}
-use Rattle.instruction_rules.specs.Reading.{number_of}
+use Rattle.instruction_rules.specs.Reading.{decoded_number}
 use Rattle.ground_rules.specs.declared.State.{State}
 use Rattle.attention_rules.specs.Attention.{attention_of}
 use Rattle.attention_rules.specs.Power.{power_up_of}
@@ -66,8 +66,8 @@ pub instruction-stops : (m : Buffers) (c : Channel) (busy : ℕ) → Instruction
 unfolding told_up_to
 instruction-stops m c busy =
     record {
-      pair = λ h. short (ap (λ (b : Bool). b && eqb (number_of (decoded_at m c.tp)) 0) ((told-exactly (told-touchable m (bytes_at c.tp 2))).1 h));
-      code = λ ne. short (ap (λ (b : Bool). all_touchable m (bytes_at c.tp 2) && b) (ne_eqb (number_of (decoded_at m c.tp)) 0 ne) ∙ and-false (all_touchable m (bytes_at c.tp 2)));
+      pair = λ h. short (ap (λ (b : Bool). b && eqb (decoded_number (decoded_at m c.tp)) 0) ((told-exactly (told-touchable m (bytes_at c.tp 2))).1 h));
+      code = λ ne. short (ap (λ (b : Bool). all_touchable m (bytes_at c.tp 2) && b) (ne_eqb (decoded_number (decoded_at m c.tp)) 0 ne) ∙ and-false (all_touchable m (bytes_at c.tp 2)));
       later = λ free z h.
           ap length (later-stops c busy m (decoded_at m c.tp) (passes free) refl z ((told-exactly (told-touchable m (later_from (decoded_at m c.tp) c))).1 h)).1
           ∙ beyond-length m _
@@ -81,7 +81,7 @@ instruction-stops m c busy =
           );
     }
   where
-    short : all_touchable m (bytes_at c.tp 2) && eqb (number_of (decoded_at m c.tp)) 0 ≡ false → length (told_by_instruction m c busy) ≡ 2
+    short : all_touchable m (bytes_at c.tp 2) && eqb (decoded_number (decoded_at m c.tp)) 0 ≡ false → length (told_by_instruction m c busy) ≡ 2
     short e = front_length m (told_by_instruction m c busy) (bytes_at c.tp 2) (instruction-told m c busy ∙ rw e) ∙ span-length c.tp.tag c.tp.address 2
 
     passes : ¬ (PairBeyond m c) → all_touchable m (bytes_at c.tp 2) ≡ true

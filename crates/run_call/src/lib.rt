@@ -1,10 +1,31 @@
 // Both runs for C in one object, so that the code which they share stands in it once.
 #![tactic(auto)]
 
-ghost use Rattle.std.specs.Prelude.{◌≡◌};
+ghost use Rattle.std.specs.Prelude.{◌≡◌, ◌*◌, ◌+◌, ◌%◌};
 ghost use Rattle.ground_rules.specs.Buffers.{lent};
+ghost use Rattle.run_rules.specs.Run.{stop_number};
 ghost use Rattle.run_rules.specs.Run.{run_of, answer_of, called};
 ghost use Rattle.run_rules.specs.Board.{board_run_of};
+
+use ground_rules::Refusal;
+use run_rules::Ran;
+
+// The number of what stopped a run, 0 at the limit.
+fn number(stopped: Option<Refusal>) -> u32
+    ensures { result ≡ stop_number stopped }
+{
+    match stopped {
+        Some(refusal) => refusal.number(),
+        None => 0,
+    }
+}
+
+// How a run ended, as one number: number × 65,536 + steps done.
+fn answer(r: Ran) -> u32
+    ensures { result ≡ stop_number r.stopped % 65536 * 65536 + r.steps % 65536 }
+{
+    number(r.stopped) % 65536 * 65536 + r.steps % 65536
+}
 
 // A run of a channel: number × 65,536 + steps done.
 #[unsafe(no_mangle)]
@@ -18,8 +39,7 @@ pub extern "C" fn iop89_run(
 ) -> u32
     ensures { called result (lent sys.new io.new) ≡ called (answer_of (run_of (lent sys.old io.old) cp channel lines limit)) (run_of (lent sys.old io.old) cp channel lines limit).memory }
 {
-    let r = panel::run(sys, io, cp, channel, lines, limit);
-    r.number % 65536 * 65536 + r.steps % 65536
+    answer(panel::run(sys, io, cp, channel, lines, limit))
 }
 
 // A run of a channel from reset and power-up on: number × 65,536 + steps done.
@@ -33,6 +53,5 @@ pub extern "C" fn iop89_board(
 ) -> u32
     ensures { called result (lent sys.new io.new) ≡ called (answer_of (board_run_of (lent sys.old io.old) channel lines limit)) (board_run_of (lent sys.old io.old) channel lines limit).memory }
 {
-    let r = panel::boards::board_run(sys, io, channel, lines, limit);
-    r.number % 65536 * 65536 + r.steps % 65536
+    answer(panel::boards::board_run(sys, io, channel, lines, limit))
 }

@@ -1,5 +1,7 @@
 -- The panel's run: a fresh state, one attention, and steps until a number other than 0 or the limit (§8).
-use Rattle.std.specs.Prelude.{Bool, true, false, ◌&&◌, ℕ, zero, suc, ◌+◌, ◌*◌, ◌%◌, eqb, ltb}
+use Rattle.ground_rules.specs.Refusals.{number_of}
+use Rattle.ground_rules.specs.declared.Refusal.{Refusal}
+use Rattle.std.specs.Prelude.{Bool, true, false, ◌&&◌, ℕ, zero, suc, ◌+◌, ◌*◌, ◌%◌, eqb, ltb, Option, Some, None}
 use Rattle.ground_rules.specs.Choice.{pick}
 use Rattle.ground_rules.specs.Buffers.{Buffers, within_limits}
 use Rattle.ground_rules.specs.declared.State.{State}
@@ -56,3 +58,8 @@ pub record Call : Type 0 where
 
 abbrev pub called : ℕ → Buffers → Call
 called answer m = record { answer = answer; memory = m }
+
+-- the number of the refusal that stopped a run or steps in a row, 0 where none did
+abbrev pub stop_number : Option Refusal → ℕ
+stop_number None = 0
+stop_number (Some refusal) = number_of refusal

@@ -1,9 +1,11 @@
 // Types of the rules of the run.
 #![tactic(auto)]
 
-// How a run ended: the number that stopped it, 0 at the limit, and the steps done.
-#[derive(Clone, Copy)]
+use ground_rules::Refusal;
+
+// How a run ended: the refusal that stopped it, none at the limit, and the steps done.
+#[derive(Clone, Copy, PartialEq, Eq)]
 pub struct Ran {
-    pub number: u32,
+    pub stopped: Option<Refusal>,
     pub steps: u32,
 }

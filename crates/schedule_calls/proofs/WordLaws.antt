@@ -1,11 +1,13 @@
 -- The laws of a report's words: cleared one by one, and added to one after the other, which comes to one report added.
 -- Assumes nothing.
-use mathlib.Core.{Bool.Bool, Bool.true, Bool.◌&&◌, List.List, List.[], List.◌∷◌, Path.◌≡◌, Path.refl, Path.ap₂, Path.ap, Path.◌∙◌}
+use mathlib.Core.{Bool.Bool, Bool.true, Bool.false, Bool.not, Bool.◌&&◌, List.List, List.[], List.◌∷◌, Path.◌≡◌, Path.refl, Path.ap₂, Path.ap, Path.◌∙◌}
 use Rattle.std.proofs.Common.{ℕ, zero, suc, ◌+◌, ◌*◌, ◌/◌, ◌%◌, ◌^◌, ◌<◌, ltb-true, eqb-true}
 use native.Mathlib.{Decide.dec_lt, Numerals.add-one, Omega.arith}
 use lib.{Dec.eqb, Dec.ltb, ListN.length, ListN.get_or, ListN.set, ListN.replicate, ListN.length-set, Seq.set-get_or}
 use Rattle.ground_rules.proofs.ChoiceLaws.{both_left, both_right}
 use Rattle.ground_rules.specs.Choice.{pick}
+use mir.Val.{bool_byte}
+use Rattle.schedule_rules.specs.Counts.{once_if}
 use Rattle.schedule_rules.specs.Reports.{no_report, put_over}
 use Rattle.schedule_calls.specs.Words.{added_at, added_all, added_on}
 
@@ -45,6 +47,15 @@ unfolding added_on
 none-on zero xs h = refl
 none-on (suc n) [] h = refl
 none-on (suc n) (x ∷ xs) h = let l = h 0 in ap₂ ◌∷◌ (omega arith) (none-on n xs (λ i. h (suc i)))
+
+-- a truth value as a number
+pub once-byte : (b : Bool) → bool_byte b ≡ once_if b
+once-byte true = refl
+once-byte false = refl
+
+pub not-byte : (b : Bool) → bool_byte (not b) ≡ pick b 0 1
+not-byte true = refl
+not-byte false = refl
 
 -- numbers added at places of a report
 abbrev plus_all : List (ℕ × ℕ) → List ℕ → List ℕ

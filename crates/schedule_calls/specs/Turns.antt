@@ -1,9 +1,9 @@
 -- What stands between two rows, and what one row makes of it.
-use mathlib.Core.{Bool.true, Bool.◌||◌, List.List, List.[], List.◌∷◌, Path.◌≡◌}
+use mathlib.Core.{Bool.true, List.List, List.[], List.◌∷◌, Path.◌≡◌}
 use Rattle.std.specs.Prelude.{ℕ}
 use Rattle.ground_rules.specs.Buffers.{Buffers}
 use Rattle.state_rules.specs.Layout.{bytes_of, state_in, is_state}
-use Rattle.schedule_rules.specs.{Reports.report_of, Rows.Bench, Rows.bench, Rows.is_attention, Rows.is_step, Rows.row_left, declared.ScheduleRow.ScheduleRow}
+use Rattle.schedule_rules.specs.{Reports.report_of, Rows.Bench, Rows.bench, Rows.row_left, declared.ScheduleRow.ScheduleRow}
 use Rattle.schedule_calls.specs.Words.{added_on}
 
 -- a state's bytes, both memories and the report's words
@@ -29,16 +29,6 @@ pub record RowRun (r : ScheduleRow) (x y : Standing) : Type 0 where
   pub bench : bench_in y ≡ row_left (bench_in x) r
   pub words : y.words ≡ added_on (report_of (bench_in x) (r ∷ [])) x.words
   pub state : StateBytes y.bytes
-
--- a row is run where the number before the first row is 0; else nothing changes
-pub record Turned (number : ℕ) (r : ScheduleRow) (x y : Standing) : Type 0 where
-  pub runs : number ≡ 0 → RowRun r x y
-  pub stays : ¬ (number ≡ 0) → y ≡ x
-
--- what the turn of a row needs
-pub record TurnReady (number : ℕ) (r : ScheduleRow) (x : Standing) : Type 0 where
-  pub state : number ≡ 0 → StateBytes x.bytes
-  pub known : number ≡ 0 → (is_attention r || is_step r) ≡ true
 
 -- a row that is an attention to a channel
 abbrev pub attention_row : ℕ → ScheduleRow

@@ -16,52 +16,33 @@ fn clear_word(report: &mut [u64], at: usize)
     }
 }
 
-// Clears as many of the sixteen words as are lent.
+// Clears as many of the sixteen words as are lent. By `fill` or over `iter_mut().take(16)` this is a call of memset, which
+// the archive leaves undefined.
 pub fn clear(report: &mut [u64])
     ensures { report.new ≡ put_over no_report report.old }
 {
-    let mut i: usize = 0;
-    while i < 16 {
-        clear_word(report, i);
-        i += 1;
+    for at in 0..16 {
+        clear_word(report, at);
     }
 }
 
-// Adds to one word, where a test holds.
-fn add(report: &mut [u64], test: bool, at: usize, by: u64)
-    ensures { report.new ≡ added_at at (pick test by 0) report.old }
+// Adds to one word, which goes on at 0 behind its greatest number.
+fn add(report: &mut [u64], at: usize, by: u64)
+    ensures { report.new ≡ added_at at by report.old }
 {
-    if !test {
-        return;
-    }
     if at < report.len() {
-        report[at] = std::num::wrapping_add_u64(report[at], by);
+        report[at] = report[at].wrapping_add(by);
     }
-}
-
-// Where a report counts over all what was done, and what was refused.
-fn over_all(done: bool) -> usize
-    ensures is { result ≡ pick done 0 1 }
-    ensures low { result ≤ 1 }
-{
-    if done { 0 } else { 1 }
 }
 
 // Counts an attention, done or refused.
 pub(crate) fn attention(report: &mut [u64], done: bool, channel: u32)
     ensures { report.new ≡ added_all (attention_adds done channel) report.old }
 {
-    let at = over_all(done);
-    add(report, true, at, 1);
-    add(report, channel == 1, at + 2, 1);
-    add(report, channel == 2, at + 9, 1);
-}
-
-// One of two numbers.
-pub(crate) fn chosen(test: bool, a: u32, b: u32) -> u32
-    ensures { result ≡ pick test a b }
-{
-    if test { a } else { b }
+    let at = usize::from(!done);
+    add(report, at, 1);
+    add(report, at + 2, u64::from(channel == 1));
+    add(report, at + 9, u64::from(channel == 2));
 }
 
 // The digits of this number, sixteen of four bits, are where a report counts a step that was done, by its channel and four
@@ -82,17 +63,17 @@ pub(crate) fn step(report: &mut [u64], first: Found, second: Found, answer: u32)
     requires { answer % 256 ≡ 0 → answer / 1024 % 4 ≡ 2 → pick (eqb (answer / 256 % 4) 2) second.reads first.reads ≤ answer / 4096 }
     ensures { report.new ≡ added_all (step_adds first.waits second.waits (eqb (answer % 256) 0) (eqb (answer / 256 % 4) 2) (answer / 1024 % 4) (answer / 4096 - pick (eqb (answer / 256 % 4) 2) second.reads first.reads)) report.old }
 {
-    add(report, first.waits, 8, 1);
-    add(report, second.waits, 15, 1);
+    add(report, 8, u64::from(first.waits));
+    add(report, 15, u64::from(second.waits));
     if answer % 256 != 0 {
-        add(report, true, 1, 1);
+        add(report, 1, 1);
         return;
     }
     let at = counted_at(answer);
-    add(report, true, 0, 1);
-    add(report, true, at, 1);
+    add(report, 0, 1);
+    add(report, at, 1);
     if answer / 1024 % 4 == 2 {
-        let read = chosen(answer / 256 % 4 == 2, second.reads, first.reads);
-        add(report, true, at + 1, (answer / 4096 - read) as u64);
+        let stepped = if answer / 256 % 4 == 2 { second } else { first };
+        add(report, at + 1, (answer / 4096 - stepped.reads) as u64);
     }
 }

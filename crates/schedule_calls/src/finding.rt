@@ -6,7 +6,6 @@ ghost use Rattle.transfer_rules.specs.{Parts.part_of, Steps.reads_by};
 ghost use Rattle.turn_rules.specs.Choosing.{requested};
 ghost use Rattle.schedule_rules.specs.Counts.{waits_for_drq};
 
-use crate::counting;
 use ground_rules::Channel;
 
 // Whether a channel waits for its DRQ, and how many bytes its next transfer step reads.
@@ -29,6 +28,7 @@ pub(crate) fn find(c: Channel, lines: u32, second: bool) -> Found
     }
     let reads = transfer::bytes_read(c);
     let f = c.fields;
+    // Asked first, by a branch: joined with what follows it takes ten instructions more a row.
     if !((f.synchronised == 1) | (f.synchronised == 2)) {
         return Found {
             waits: false,
@@ -36,7 +36,7 @@ pub(crate) fn find(c: Channel, lines: u32, second: bool) -> Found
         };
     }
     let mode = c.mode;
-    let drq = words::bit(lines, counting::chosen(second, 1, 0));
+    let drq = words::bit(lines, u32::from(second));
     Found {
         waits: (lines < 16) & machine::states::is_running(mode) & !drq,
         reads,

@@ -2,50 +2,34 @@
 #![tactic(auto)]
 
 ghost use mathlib.Core.{Bool.true, Bool.◌||◌, Path.◌≡◌};
-ghost use Rattle.ground_rules.specs.{Choice.pick, Buffers.lent};
+ghost use Rattle.ground_rules.specs.{Choice.pick, Buffers.lent, Refusals.answered};
 ghost use Rattle.state_rules.specs.Layout.{bytes_of, state_in, is_state};
-ghost use Rattle.schedule_rules.specs.{Reports.no_report, Reports.put_over, Rows.is_attention, Rows.is_step, Rows.all_known};
+ghost use Rattle.schedule_rules.specs.{Rows.is_attention, Rows.is_step, Rows.all_known};
 ghost use Rattle.schedule_calls.specs.Calls.{ScheduleMet};
-ghost use Rattle.schedule_calls.specs.Turns.{standing, StateBytes, RowRun, TurnReady, Turned, attention_row, step_row};
+ghost use Rattle.schedule_calls.specs.Turns.{standing, StateBytes, RowRun, attention_row, step_row};
 
+use ground_rules::Refusal;
+use rows::RowKind;
 use schedule_rules::ScheduleRow;
 
 // The words of a report.
 pub mod counting;
 // What a row finds of a channel before its step.
 mod finding;
+// A row as what it asks for.
+mod rows;
 
-// Whether a row is of a known kind.
-fn is_row(row: ScheduleRow) -> bool
-    ensures { result ≡ (is_attention row || is_step row) }
+// Whether a schedule is run: on the bytes of a state, of rows of known kinds.
+fn admitted(state: &[u8], rows: &[ScheduleRow]) -> Result<(), Refusal>
+    ensures { answered result ≡ pick (is_state state.now) (pick (all_known rows.now) 0 16) 17 }
 {
-    (row.kind == 1) | (row.kind == 2)
-}
-
-// Whether every row is.
-fn known(rows: &[ScheduleRow]) -> bool
-    ensures { result ≡ all_known rows.now }
-{
-    let mut all = true;
-    let mut i: usize = 0;
-    while i < rows.len() {
-        all = all & is_row(rows[i]);
-        i += 1;
+    if !state_bytes::layout::is_state(state) {
+        return Err(Refusal::NotAState);
     }
-    all
-}
-
-// Clears the report and answers the number before the first row: 17 for bytes that are no state, 16 for a row of no known
-// kind, else 0.
-fn begin(state: &mut [u8], report: &mut [u64], known: bool) -> u32
-    ensures number { result ≡ pick (is_state state.old) (pick known 0 16) 17 }
-    ensures same { state.new ≡ state.old }
-    ensures cleared { report.new ≡ put_over no_report report.old }
-    ensures back { is_state state.old ≡ true → bytes_of (state_in state.old) ≡ state.old }
-{
-    counting::clear(report);
-    let number = counting::chosen(known, 0, 16);
-    counting::chosen(state_bytes::layout::is_state(state), number, 17)
+    if !rows::all_known(rows) {
+        return Err(Refusal::UnknownRow);
+    }
+    Ok(())
 }
 
 // A row that is an attention to a channel.
@@ -68,25 +52,16 @@ fn step(state: &mut [u8], lines: u32, sys: &mut [u8], io: &mut [u8], report: &mu
     counting::step(report, first, second, answer);
 }
 
-// The turn of one row, where the number before the first row is 0; else nothing.
-fn turn(
-    number: u32,
-    state: &mut [u8],
-    row: ScheduleRow,
-    sys: &mut [u8],
-    io: &mut [u8],
-    report: &mut [u64],
-)
-    requires { TurnReady number row (standing state.old (lent sys.old io.old) report.old) }
-    ensures { Turned number row (standing state.old (lent sys.old io.old) report.old) (standing state.new (lent sys.new io.new) report.new) }
+// The turn of one row of a known kind.
+fn turn(state: &mut [u8], row: ScheduleRow, sys: &mut [u8], io: &mut [u8], report: &mut [u64])
+    requires state { StateBytes state.old }
+    requires known { (is_attention row || is_step row) ≡ true }
+    ensures { RowRun row (standing state.old (lent sys.old io.old) report.old) (standing state.new (lent sys.new io.new) report.new) }
 {
-    if number != 0 {
-        return;
-    }
-    if row.kind == 1 {
-        attend(state, row.value, sys, io, report);
-    } else {
-        step(state, row.value, sys, io, report);
+    match RowKind::try_from(row) {
+        Ok(RowKind::Attention(channel)) => attend(state, channel, sys, io, report),
+        Ok(RowKind::Step(lines)) => step(state, lines, sys, io, report),
+        Err(_) => {}
     }
 }
 
@@ -101,11 +76,12 @@ pub extern "C" fn iop89_schedule(
 ) -> u32
     ensures { ScheduleMet result (standing state.new (lent sys.new io.new) report.new) (standing state.old (lent sys.old io.old) report.old) rows.now }
 {
-    let number = begin(state, report, known(rows));
-    let mut i: usize = 0;
-    while i < rows.len() {
-        turn(number, state, rows[i], sys, io, report);
-        i += 1;
+    counting::clear(report);
+    if let Err(refusal) = admitted(state, rows) {
+        return refusal.number();
     }
-    number
+    for row in rows {
+        turn(state, *row, sys, io, report);
+    }
+    0
 }

@@ -1,10 +1,11 @@
 -- Some schedules in numbers: who waits, what is refused and for whom, rows of an unknown kind, and what the halves of a pair store.
 -- Assumes nothing.
+use Rattle.std.proofs.Common.{None}
 use mathlib.Core.{Bool.true, Bool.false, List.List, List.[], List.◌∷◌, List.◌++◌, Path.◌≡◌, Path.refl}
 use Prim.Native.Nat.{ℕ}
 use native.Mathlib.Omega.{arith}
 use lib.ListN.{replicate}
-use Rattle.ground_rules.specs.declared.{Channel.Channel, Held.TheVariants.NoByte, Mode.TheVariants.Running}
+use Rattle.ground_rules.specs.declared.{Channel.Channel, Mode.TheVariants.Running}
 use Rattle.ground_rules.specs.Buffers.{buffers, space_of, limit_of, index_of, lent_at, touchable_at, beyond_in, byte_at, store_byte, within_limits}
 use Rattle.ground_rules.specs.States.{board_with, channel_of, with_channel, with_last, sound_channel, sound, is_running, fields_agree, agree}
 use Rattle.ground_rules.specs.{Cc.split, Cc.same_flag, Cc.same_fields, Outcomes.unless, Outcomes.first, Outcomes.given_number, Psw.with_psw, Stages.stages_number}
@@ -38,7 +39,7 @@ pair_with cc =
       ix = 0;
       cc = cc;
       mc = 0;
-      held = NoByte;
+      held = None;
       psw = 0x45;
       mode = Running;
       armed = false;

@@ -19,31 +19,22 @@ struct LentLengths {
     io: usize,
 }
 
-// How many bytes are lent after a call.
-fn lent_after(call: ScriptCall, lent: LentLengths) -> LentLengths
-    requires limited { Limited call }
-    requires sys_bound { (lent.sys ≤ 1048577) × (lent.io ≤ 65537) }
-    ensures value { result ≡ lent_after call lent }
-    ensures sys_bound_2 { (result.sys ≤ 1048577) × (result.io ≤ 65537) }
-{
-    match call {
-        ScriptCall::Make(sys, io, _) => LentLengths {
-            sys: sys as usize,
-            io: io as usize,
-        },
-        ScriptCall::Nothing => lent,
-        ScriptCall::Unknown => lent,
-        ScriptCall::Put(_, _) => lent,
-        ScriptCall::Set(_, _, _) => lent,
-        ScriptCall::Attention(_) => lent,
-        ScriptCall::Step(_) => lent,
-        ScriptCall::Dump => lent,
-        ScriptCall::Show(_, _) => lent,
-        ScriptCall::Listing(_, _, _) => lent,
-        ScriptCall::Load => lent,
-        ScriptCall::Reset => lent,
-        ScriptCall::PowerUp => lent,
-        ScriptCall::Sweep(_, _) => lent,
+impl LentLengths {
+    // How many bytes are lent after a call.
+    #[tactic(auto, unfolding(crate::specs::Lent::lent_after))]
+    fn after(self, call: ScriptCall) -> LentLengths
+        requires limited { Limited call }
+        requires sys_bound { (self.sys ≤ 1048577) × (self.io ≤ 65537) }
+        ensures value { result ≡ lent_after call self }
+        ensures sys_bound_2 { (result.sys ≤ 1048577) × (result.io ≤ 65537) }
+    {
+        match call {
+            ScriptCall::Make(sys, io, _) => LentLengths {
+                sys: sys as usize,
+                io: io as usize,
+            },
+            _ => self,
+        }
     }
 }
 
@@ -57,18 +48,17 @@ fn line_end(text: &[u8], at: usize) -> usize
 }
 
 // Where the characters of a line end that goes from `at` to `end`: before one carriage return where a line feed follows it.
+#[tactic(auto, unfolding(crate::specs::Lines::content_end))]
 fn content_end(text: &[u8], at: usize, end: usize) -> usize
     requires { (at ≤ end) × (end ≤ length text.now) }
     ensures value { result ≡ content_end text.now at end }
     ensures lower_bound { (at ≤ result) × (result ≤ end) }
 {
-    if end <= at {
-        return end;
+    if at < end && end < text.len() && text[end - 1] == b'\r' {
+        end - 1
+    } else {
+        end
     }
-    if text.len() <= end {
-        return end;
-    }
-    if text[end - 1] == 13 { end - 1 } else { end }
 }
 
 // Whether a line starts at an index, as the caller says, that is `end` and nothing else, which closes a file.
@@ -81,10 +71,7 @@ fn closes_file(text: &[u8], at: usize, start: bool) -> bool
     }
     let end = line_end(text, at);
     let content = content_end(text, at, end);
-    if content - at != 3 {
-        return false;
-    }
-    (text[at] == 101) & (text[at + 1] == 110) & (text[at + 2] == 100)
+    &text[at..content] == b"end".as_slice()
 }
 
 // Where the file ends whose first line starts at an index.
@@ -93,16 +80,14 @@ fn file_end(text: &[u8], at: usize) -> usize
     ensures value { result ≡ file_end text.now at }
     ensures lower_bound { (at ≤ result) × (result ≤ length text.now) }
 {
-    let mut i = at;
     let mut start = true;
-    while i < text.len() {
+    for i in at..text.len() {
         if closes_file(text, i, start) {
             return i;
         }
-        start = text[i] == 10;
-        i += 1;
+        start = text[i] == b'\n';
     }
-    i
+    text.len()
 }
 
 // The index behind the line feed at another, or that one where the text ends there.
@@ -110,7 +95,7 @@ fn behind(text: &[u8], end: usize) -> usize
     requires { end ≤ length text.now }
     ensures { result ≡ min (end + 1) (length text.now) }
 {
-    if end < text.len() { end + 1 } else { end }
+    (end + 1).min(text.len())
 }
 
 // What a call is given of the text, and where the next line starts.
@@ -128,7 +113,7 @@ fn given_to(text: &[u8], at: usize, content: usize, end: usize, call: ScriptCall
     ensures { (result.from ≤ result.to) × (result.to ≤ length text.now) × (at < result.next) × (result.next ≤ length text.now) }
 {
     let next = behind(text, end);
-    if let ScriptCall::Load = call {
+    if matches!(call, ScriptCall::Load) {
         let to = file_end(text, next);
         let last = line_end(text, to);
         return GivenText {
@@ -148,30 +133,7 @@ fn given_to(text: &[u8], at: usize, content: usize, end: usize, call: ScriptCall
 fn feeds(text: &[u8]) -> usize
     ensures { result ≤ length text.now }
 {
-    let mut count: usize = 0;
-    let mut i: usize = 0;
-    while i < text.len() {
-        if text[i] == 10 {
-            count += 1;
-        }
-        i += 1;
-    }
-    count
-}
-
-// Says a line of words on standard error; where that cannot be written, nothing.
-fn say(rt: HostRuntime, words: &str) {
-    let _ = eprintln!(rt; "{words}");
-}
-
-// Says which line, counted from 1, was no call, or was shut out.
-fn complain(rt: HostRuntime, number: usize, call: ScriptCall) {
-    let why = match call {
-        ScriptCall::Put(_, _) => "a byte past the buffer's end",
-        ScriptCall::Listing(_, _, _) => "no part of the buffer, or one of more than 1024 bytes",
-        _ => "no call",
-    };
-    let _ = eprintln!(rt; "line {number}: {why}");
+    text.iter().filter(|byte| **byte == b'\n').count()
 }
 
 // Makes the calls of a text, line by line, and writes out what each shows.
@@ -179,42 +141,32 @@ fn play(rt: HostRuntime, text: &[u8], sys: &mut [u8], io: &mut [u8]) -> io::Resu
     requires text_len_bound { length text.now ≤ 1048576 }
     requires value { (1048577 ≡ length sys.old) × (65537 ≡ length io.old) }
 {
-    let fresh = machine::states::fresh(0);
-    let start = fresh.state;
-    let mut state = start;
+    let mut state = machine::states::fresh(0).state;
     let mut lent = LentLengths { sys: 0, io: 0 };
     let mut out = [0u8; 32768];
-    let mut at: usize = 0;
-    let mut number: usize = 1;
+    let mut at = 0;
+    let mut number = 1;
     while at < text.len() {
         let end = line_end(text, at);
         let content = content_end(text, at, end);
         let call = text::call_of(&text[at..content]);
         let given = given_to(text, at, content, end, call);
-        let from = given.from;
-        let to = given.to;
-        let next_at = given.next;
-        let line = &text[from..to];
-        lent = lent_after(call, lent);
-        let sys_length = lent.sys;
-        let io_length = lent.io;
-        let r = script_answers::perform(
-            state,
+        lent = lent.after(call);
+        let done = script_answers::perform(
+            &mut state,
             call,
-            line,
-            &mut sys[..sys_length],
-            &mut io[..io_length],
+            &text[given.from..given.to],
+            &mut sys[..lent.sys],
+            &mut io[..lent.io],
             &mut out,
         );
-        let count = r.count;
-        rt.write_all(&out[..count])?;
-        if !r.made {
-            complain(rt, number, call);
+        rt.write_all(&out[..done.count])?;
+        if let Err(why) = done.made {
+            // Where standard error cannot be written, nothing is said.
+            let _ = eprintln!(rt; "line {number}: {why}");
         }
-        number += feeds(&text[at..next_at]);
-        let next = r.state;
-        state = next;
-        at = next_at;
+        number += feeds(&text[at..given.next]);
+        at = given.next;
     }
     Ok(())
 }
@@ -247,7 +199,8 @@ fn main(rt: HostRuntime) -> io::Result<()> {
     let length = input::read_full(&mut rt.stdin(), &mut text)?;
     if 1048576 < length {
         println!(rt; "?")?;
-        say(rt, "the text is longer than 1048576 bytes");
+        // Where standard error cannot be written, nothing is said.
+        let _ = eprintln!(rt; "the text is longer than 1048576 bytes");
         return Ok(());
     }
     play(rt, &text[..length], &mut sys, &mut io)

@@ -24,7 +24,8 @@ use Rattle.script_text.specs.Text.{digit_of, until_same, until_other, value_of, 
 use Rattle.script_text.specs.Calls.{make_call, put_call, set_call, attention_call, step_call, bare_call, show_call, list_call, sweep_call, call_from, call_of}
 use Rattle.script_text.specs.Buffers.{byte_of, bytes_written, has_room}
 use Rattle.script_lines.specs.Lines.{answer_line, count_text, counted_line, stepped_line, swept_line, loaded_line, dump_text, shown_line}
-use Rattle.script_answers.specs.Machine.{Machine, machine, remade, put_of, put_into, machine_attended, machine_advanced, machine_loaded, machine_powered, machine_swept, is_part, call_performed, call_made}
+use Rattle.script_answers.specs.declared.NotMade.TheVariants.{NoCall, PastTheEnd, NoPart}
+use Rattle.script_answers.specs.Machine.{Machine, machine, remade, put_of, put_into, machine_attended, machine_advanced, machine_loaded, machine_powered, machine_swept, is_part, call_performed, call_made, not_made}
 use Rattle.script_answers.specs.Shown.{advanced_line, sweep_text, put_line, listed_text, load_text, call_text}
 
 -- what a line makes of the machine, whether its call was made, and what it prints
@@ -112,3 +113,8 @@ module _ (s : State) (a b c d x y : ℕ) where
 pub parts-most : (is_part (replicate 1100 0) 0 1024 ≡ true) × (is_part (replicate 1100 0) 0 1025 ≡ false)
 unfolding is_part
 parts-most = (refl, refl)
+
+-- why a call is not made: the line is none, a byte of `put` would lie past the end, or what `list` names is no part
+pub calls-not-made : map (λ (text : String). not_made (call_of (ascii text))) ("calls" ∷ "put 0 4 00" ∷ "list 0 0 5" ∷ []) ≡ NoCall ∷ PastTheEnd ∷ NoPart ∷ []
+unfolding not_made call_of call_from words_of line_word_at span_at until_same until_other name_of packed numeral_of value_of digit_of is_pairs all_digits make_call put_call set_call attention_call step_call bare_call show_call list_call sweep_call fits_register fits_own values_of
+calls-not-made = refl

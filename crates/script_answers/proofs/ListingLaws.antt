@@ -2,8 +2,8 @@
 -- Assumes nothing.
 use mathlib.Core.Bool.{Bool, true, false}
 use mathlib.Core.List.{List, [], ◌∷◌, ◌++◌}
-use mathlib.Core.Path.{◌≡◌, refl, sym, ap, ap₂, ◌∙◌}
-use Prim.Native.Nat.{ℕ, zero, suc, ◌+◌, ◌*◌, ◌≤◌}
+use mathlib.Core.Path.{◌≡◌, refl, ap, ap₂, ◌∙◌}
+use Prim.Native.Nat.{ℕ, zero, suc, ◌+◌, ◌-◌, ◌*◌, ◌≤◌}
 use native.Mathlib.Omega.{arith}
 use borrow.Author.Tests.{leb-true}
 use lib.Dec.{leb}
@@ -12,8 +12,7 @@ use Rattle.ground_rules.specs.Choice.{pick}
 use Rattle.listing_rules.specs.Items.{item_of, count_of}
 use Rattle.listing_rules.specs.Listings.{TextLine, lines_by, lines_of, all_chars, Listing, listing, listing_of}
 use Rattle.listing_rules.proofs.Theorems.{Every, none, more, all-proper, all_fit}
-use Rattle.page.specs.Pages.{page, written, Behind}
-use Rattle.page.proofs.PageLaws.{printed}
+use Rattle.std.proofs.lemmas.List.{take_at}
 use Rattle.script_lines.specs.Lines.{refused_line}
 use Rattle.script_answers.specs.Machine.{is_part}
 use Rattle.script_answers.specs.Shown.{listed_text}
@@ -69,18 +68,25 @@ listed-short s at count = go (is_part s at count) refl
 
 -- ---- what the lister leaves
 
--- a text that stands whole at the start of a buffer was put there
-put-there : (before after : List ℕ) (count : ℕ) (text : List ℕ) → length text ≤ length before → after ≡ text ++ drop (length text) before → count ≡ length text
-    → Behind (page before 0) (page after count) text
-put-there before after count text h b n =
-    let q = written (page before 0) text in
-    let p = printed before q.bytes q.count text h (record { is = refl }) in
-    record { is = ap₂ page (b ∙ sym p.bytes) (n ∙ sym p.size) }
-
--- the lister puts all lines of at most 1,024 bytes there
-pub listed-there : (code : List ℕ) (first : ℕ) (before after : List ℕ) (characters stop : ℕ) → length code ≤ 1024 → 32768 ≤ length before
-    → listing characters stop after ≡ listing_of code first before → Behind (page before 0) (page after characters) (all_chars (lines_of first code))
-listed-there code first before after characters stop h room e =
+-- of at most 1,024 bytes the lister puts all lines at the start of such a buffer
+pub listed_there : (code : List ℕ) (first : ℕ) (before after : List ℕ) (characters stop : ℕ) → length code ≤ 1024 → 32768 ≤ length before
+    → listing characters stop after ≡ listing_of code first before → (characters ≤ length after) × (take characters after ≡ all_chars (lines_of first code))
+listed_there code first before after characters stop h room e =
+    let text = all_chars (lines_of first code) in
     let short = chars-short first code h in
-    let whole = e ∙ all_fit code before first (omega arith) (omega arith) in
-    put-there before after characters (all_chars (lines_of first code)) (omega arith) (ap (λ (l : Listing). l.buffer) whole) (ap (λ (l : Listing). l.characters) whole)
+    let all = e ∙ all_fit code before first (omega arith) (omega arith) in
+    let bytes : after ≡ text ++ drop (length text) before = ap (λ (l : Listing). l.buffer) all in
+    let count : characters ≡ length text = ap (λ (l : Listing). l.characters) all in (
+      omega (arith, ap (λ (l : List ℕ). length l) bytes, length-append text (drop (length text) before)),
+      ap₂ take count bytes ∙ take_at text (drop (length text) before) (length text) refl,
+    )
+
+-- so those of a part
+pub part_there : (s : List ℕ) (at count : ℕ) (before after : List ℕ) (characters stop : ℕ) → is_part s at count ≡ true → 32768 ≤ length before
+    → listing characters stop after ≡ listing_of (take (at + count - at) (drop at s)) at before
+    → (characters ≤ length after) × (take characters after ≡ all_chars (lines_of at (take count (drop at s))))
+part_there s at count before after characters stop part room e =
+    let size : at + count - at ≡ count = omega arith in
+    let few = (parted s at count part).few in
+    listed_there (take count (drop at s)) at before after characters stop (omega (arith, length-take count (drop at s), few)) room
+    (e ∙ ap (λ (n : ℕ). listing_of (take n (drop at s)) at before) size)

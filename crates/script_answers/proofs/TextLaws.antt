@@ -1,8 +1,7 @@
--- The text of every call has room in 32,768 bytes, so that it stands whole; that of a listing is the longest.
+-- The text of every call has room in 32,768 bytes; that of a listing is the longest.
 -- Assumes nothing.
 use mathlib.Core.Bool.{Bool, true, false}
 use mathlib.Core.List.{List, []}
-use mathlib.Core.Path.{◌≡◌, sym, subst}
 use Prim.Native.Nat.{ℕ, ◌≤◌}
 use native.Mathlib.Omega.{arith}
 use lib.ListN.{length}
@@ -17,8 +16,6 @@ use Rattle.turn_rules.specs.Touched.{step_count}
 use Rattle.sweep_rules.specs.Sweep.{sweep_of}
 use Rattle.listing_rules.specs.Characters.{ascii}
 use Rattle.prom_rules.specs.Load.{load_of}
-use Rattle.page.specs.Pages.{page, Behind, Printed}
-use Rattle.page.proofs.PageLaws.{printed, nothing-behind}
 use Rattle.script_text.specs.declared.text.ScriptCall.{ScriptCall}
 use Rattle.script_text.specs.declared.text.ScriptCall.TheVariants.{Nothing, Unknown, Make, Put, Set, Attention, Step, Dump, Show, Listing, Load, Reset, PowerUp, Sweep}
 use Rattle.script_lines.proofs.LengthLaws.{answer-short, counted-short, stepped-short, swept-short, loaded-short, dump-short, shown-short}
@@ -51,16 +48,3 @@ call-short Reset line s m = omega (arith, answer-short (ascii "reset ") 0)
 call-short PowerUp line s m = omega (arith, counted-short (ascii "power ") (power_up_of s m).number (power_count m))
 call-short (Sweep channel lines) line s m =
     omega (arith, swept-short (sweep_of s m channel lines).number (sweep_of s m channel lines).steps (sweep_of s m channel lines).count)
-
--- the text that was written from the start of such a buffer is the call's, whole
-pub shows : {call this : ScriptCall} (line : List ℕ) (s : State) (m : Buffers) {before after : List ℕ} {count : ℕ} → call ≡ this → 32768 ≡ length before
-    → Behind (page before 0) (page after count) (call_text this line s m) → Printed before after count (call_text call line s m)
-shows {call} {this} line s m {before} {after} {count} e n w =
-    subst (λ (x : ScriptCall). Printed before after count (call_text x line s m)) (sym e)
-    (printed before after count (call_text this line s m) (omega (arith, call-short this line s m)) w)
-
--- a line that is passed over leaves any buffer as it was
-pub shows_nothing : {call : ScriptCall} (line : List ℕ) (s : State) (m : Buffers) (before : List ℕ) → call ≡ Nothing → Printed before before 0 (call_text call line s m)
-unfolding call_text
-shows_nothing line s m before e =
-    subst (λ (x : ScriptCall). Printed before before 0 (call_text x line s m)) (sym e) (printed before before 0 [] (omega arith) (nothing-behind (page before 0)))

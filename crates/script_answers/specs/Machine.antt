@@ -11,6 +11,8 @@ use Rattle.sweep_rules.specs.Sweep.{sweep_of}
 use Rattle.prom_rules.specs.Load.{load_of}
 use Rattle.script_text.specs.declared.text.ScriptCall.{ScriptCall}
 use Rattle.script_text.specs.declared.text.ScriptCall.TheVariants.{Nothing, Unknown, Make, Put, Set, Attention, Step, Dump, Show, Listing, Load, Reset, PowerUp, Sweep}
+use Rattle.script_answers.specs.declared.NotMade.{NotMade}
+use Rattle.script_answers.specs.declared.NotMade.TheVariants.{NoCall, PastTheEnd, NoPart}
 use Rattle.script_text.specs.Text.{spanned, fourth_span}
 use Rattle.script_text.specs.Registers.{with_named}
 use Rattle.script_text.specs.Buffers.{bytes_written, has_room}
@@ -92,3 +94,9 @@ call_made Load line m = true
 call_made Reset line m = true
 call_made PowerUp line m = true
 call_made (Sweep channel lines) line m = true
+
+-- why it was not, where it was not
+unfoldable pub not_made : ScriptCall → NotMade
+not_made (Put space address) = PastTheEnd
+not_made (Listing space address count) = NoPart
+not_made call = NoCall

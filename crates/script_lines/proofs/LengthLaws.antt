@@ -1,5 +1,6 @@
 -- How long the lines are at most.
 -- Assumes nothing.
+use Rattle.std.proofs.Common.{Option, ℕ}
 use mathlib.Core.Bool.{Bool, true, false}
 use mathlib.Core.List.{List, [], ◌∷◌, ◌++◌}
 use Prim.Native.Nat.{ℕ, zero, suc, ◌+◌, ◌*◌, ◌≤◌}
@@ -9,7 +10,6 @@ use lib.ListN.{length, get_or, length-append}
 use Rattle.ground_rules.specs.Choice.{pick}
 use Rattle.ground_rules.specs.Buffers.{Buffers}
 use Rattle.ground_rules.specs.declared.Pointer.{Pointer}
-use Rattle.ground_rules.specs.declared.Held.{Held}
 use Rattle.ground_rules.specs.declared.Mode.{Mode}
 use Rattle.ground_rules.specs.declared.Board.{Board}
 use Rattle.ground_rules.specs.declared.Channel.{Channel}
@@ -93,7 +93,7 @@ numbers-short pp bc ix control fields mc psw =
     (both (register_text (ascii " fields ") fields 4) _ 12 15 (register-short (ascii " fields ") fields 4)
     (both (register_text (ascii " mc ") mc 4) _ 8 7 (register-short (ascii " mc ") mc 4) (register-short (ascii " psw ") psw 2))))))
 
-marks-short : (mode : Mode) (armed : Bool) (held : Held) → length (marks_text mode armed held) ≤ 24
+marks-short : (mode : Mode) (armed : Bool) (held : Option ℕ) → length (marks_text mode armed held) ≤ 24
 unfolding marks_text
 marks-short mode armed held =
     both (register_text (ascii " mode ") (number_of_mode mode) 1) _ 7 17 (register-short (ascii " mode ") (number_of_mode mode) 1)

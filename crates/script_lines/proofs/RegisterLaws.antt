@@ -1,5 +1,6 @@
 -- What `set` changes, and what `dump`, `show` and the calls print, in the text of docs/SCRIPT.md.
 -- Assumes nothing.
+use Rattle.std.proofs.Common.{None, Some}
 use mathlib.Core.Bool.{true, false}
 use mathlib.Core.List.{List, [], ◌∷◌, ◌++◌, map}
 use mathlib.Core.Path.{◌≡◌, refl}
@@ -14,7 +15,6 @@ use Rattle.ground_rules.specs.Holdings.{held_number, held_from}
 use Rattle.ground_rules.specs.States.{board_with, channel_of, with_channel, is_second, channel_number}
 use Rattle.ground_rules.specs.Values.{pointer}
 use Rattle.ground_rules.specs.declared.Channel.{Channel}
-use Rattle.ground_rules.specs.declared.Held.TheVariants.{NoByte, Byte}
 use Rattle.ground_rules.specs.declared.Mode.{Mode}
 use Rattle.ground_rules.specs.declared.Mode.TheVariants.{Idle, Running, Suspended}
 use Rattle.ground_rules.specs.declared.State.{State}
@@ -120,7 +120,7 @@ shown =
             mode = Suspended;
             armed = true;
             fields = split 0xc028;
-            held = Byte 0xfe;
+            held = Some 0xfe;
           };
       second =
           record {
@@ -137,7 +137,7 @@ shown =
             mode = Running;
             armed = false;
             fields = split 0x1019;
-            held = NoByte;
+            held = None;
           };
       cp = 0xfffff;
       last = true;

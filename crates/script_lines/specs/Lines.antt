@@ -1,9 +1,8 @@
 -- The lines that the script program shows: answers of calls, bytes, and the three lines of a dump.
-use Rattle.std.specs.Prelude.{Bool, true, List, [], ◌∷◌, ◌++◌, ℕ, zero, suc, ◌+◌, ltb, length, get_or}
+use Rattle.std.specs.Prelude.{Bool, true, List, [], ◌∷◌, ◌++◌, ℕ, zero, suc, ◌+◌, ltb, length, get_or, Option}
 use Rattle.ground_rules.specs.Choice.{pick}
 use Rattle.ground_rules.specs.Buffers.{Buffers}
 use Rattle.ground_rules.specs.declared.Pointer.{Pointer}
-use Rattle.ground_rules.specs.declared.Held.{Held}
 use Rattle.ground_rules.specs.declared.Mode.{Mode}
 use Rattle.ground_rules.specs.declared.Mode.TheVariants.{Idle, Running, Suspended}
 use Rattle.ground_rules.specs.declared.Board.{Board}
@@ -85,7 +84,7 @@ number_of_mode Running = 1
 number_of_mode Suspended = 2
 
 -- the mode of a channel, its armed mark and what it holds, as the number that stands for it, which end its line
-unfoldable pub marks_text : Mode → Bool → Held → List ℕ
+unfoldable pub marks_text : Mode → Bool → Option ℕ → List ℕ
 marks_text mode armed held =
     register_text (ascii " mode ") (number_of_mode mode) 1
     ++ (register_text (ascii " arm ") (mark_number armed) 1 ++ (register_text (ascii " held ") (held_number held) 4 ++ feed))

@@ -1,143 +1,145 @@
-// The lines that the script program shows, put into a lent buffer behind the text that it has: answers of calls, bytes, and dumps.
+// The lines that the script program shows, put on a page behind the text that it has: answers of calls, bytes, and dumps.
 #![tactic(auto)]
 
 ghost use Rattle.std.specs.Prelude.{◌≡◌};
 ghost use Rattle.ground_rules.specs.Buffers.{buffers, lent};
-ghost use Rattle.page.specs.Pages.{page, Behind};
+ghost use Rattle.ground_rules.specs.Cc.{joined};
+ghost use Rattle.page.specs.Pages.{sheet, written};
 ghost use Rattle.script_lines.specs.Lines.{answer_line, count_text, counted_line, stepped_line, swept_line, loaded_line, register_text, mark_number, pointer_text, pointers_text, numbers_text, number_of_mode, marks_text, channel_line, buffer_text, board_text, shared_line, dump_text, byte_text, bytes_text, shown_line};
 
-use ground_rules::{Board, Channel, Held, Mode, Pointer, State};
+use ground_rules::{Board, Channel, Mode, Pointer, State};
+use page::Page;
 use script_text::buffers;
 use turn_rules::Kind;
 
 // A call's name and its number.
-pub fn answer_line(out: &mut [u8], at: usize, name: &[u8], number: u32) -> usize
-    ensures { Behind (page out.old at) (page out.new result) (answer_line name.now number) }
+pub fn answer_line(page: &mut Page, name: &[u8], number: u32)
+    ensures put { sheet page.new ≡ written (sheet page.old) (answer_line name.now number) }
+    ensures same { page.new.bytes.ghost_name ≡ page.old.bytes.ghost_name }
 {
-    let named = page::append(out, at, name);
-    let numbered = page::append_decimal(out, named, number);
-    page::append(out, numbered, b"\n")
+    page.append(name);
+    page.append_decimal(number);
+    page.append(b"\n");
 }
 
 // How many bytes a call read and stored, which ends its line.
-fn count_text(out: &mut [u8], at: usize, count: u32) -> usize
-    ensures { Behind (page out.old at) (page out.new result) (count_text count) }
+fn count_text(page: &mut Page, count: u32)
+    ensures put { sheet page.new ≡ written (sheet page.old) (count_text count) }
+    ensures same { page.new.bytes.ghost_name ≡ page.old.bytes.ghost_name }
 {
-    let spaced = page::append(out, at, b" ");
-    let counted = page::append_decimal(out, spaced, count);
-    page::append(out, counted, b"\n")
+    page.append(b" ");
+    page.append_decimal(count);
+    page.append(b"\n");
 }
 
 // A call's name, its number and its count.
-pub fn counted_line(out: &mut [u8], at: usize, name: &[u8], number: u32, count: u32) -> usize
-    ensures { Behind (page out.old at) (page out.new result) (counted_line name.now number count) }
+pub fn counted_line(page: &mut Page, name: &[u8], number: u32, count: u32)
+    ensures put { sheet page.new ≡ written (sheet page.old) (counted_line name.now number count) }
+    ensures same { page.new.bytes.ghost_name ≡ page.old.bytes.ghost_name }
 {
-    let named = page::append(out, at, name);
-    let numbered = page::append_decimal(out, named, number);
-    count_text(out, numbered, count)
+    page.append(name);
+    page.append_decimal(number);
+    count_text(page, count);
 }
 
 // What a step answered: its number, the channel, the letter of its kind, and its count.
-pub fn stepped_line(
-    out: &mut [u8],
-    at: usize,
-    number: u32,
-    channel: u32,
-    kind: Kind,
-    count: u32,
-) -> usize
-    ensures { Behind (page out.old at) (page out.new result) (stepped_line number channel kind count) }
+pub fn stepped_line(page: &mut Page, number: u32, channel: u32, kind: Kind, count: u32)
+    ensures put { sheet page.new ≡ written (sheet page.old) (stepped_line number channel kind count) }
+    ensures same { page.new.bytes.ghost_name ≡ page.old.bytes.ghost_name }
 {
-    let named = page::append(out, at, b"step ");
-    let numbered = page::append_decimal(out, named, number);
-    let spaced = page::append(out, numbered, b" ");
-    let stepped = page::append_decimal(out, spaced, channel);
-    let end = [32u8, page::letter(kind)];
-    let lettered = page::append(out, stepped, &end);
-    count_text(out, lettered, count)
+    page.append(b"step ");
+    page.append_decimal(number);
+    page.append(b" ");
+    page.append_decimal(channel);
+    page.append(&[b' ', page::letter(kind)]);
+    count_text(page, count);
 }
 
 // What a sweep answered: its number, the steps that it stands for, and its count.
-pub fn swept_line(out: &mut [u8], at: usize, number: u32, steps: u32, count: u32) -> usize
-    ensures { Behind (page out.old at) (page out.new result) (swept_line number steps count) }
+pub fn swept_line(page: &mut Page, number: u32, steps: u32, count: u32)
+    ensures put { sheet page.new ≡ written (sheet page.old) (swept_line number steps count) }
+    ensures same { page.new.bytes.ghost_name ≡ page.old.bytes.ghost_name }
 {
-    let named = page::append(out, at, b"sweep ");
-    let numbered = page::append_decimal(out, named, number);
-    let spaced = page::append(out, numbered, b" ");
-    let stepped = page::append_decimal(out, spaced, steps);
-    count_text(out, stepped, count)
+    page.append(b"sweep ");
+    page.append_decimal(number);
+    page.append(b" ");
+    page.append_decimal(steps);
+    count_text(page, count);
 }
 
 // What a load answered: its number, the line that decided, and the start address.
-pub fn loaded_line(out: &mut [u8], at: usize, number: u32, line: u32, start: u32) -> usize
-    ensures { Behind (page out.old at) (page out.new result) (loaded_line number line start) }
+pub fn loaded_line(page: &mut Page, number: u32, line: u32, start: u32)
+    ensures put { sheet page.new ≡ written (sheet page.old) (loaded_line number line start) }
+    ensures same { page.new.bytes.ghost_name ≡ page.old.bytes.ghost_name }
 {
-    let named = page::append(out, at, b"prom ");
-    let numbered = page::append_decimal(out, named, number);
-    let spaced = page::append(out, numbered, b" ");
-    let lined = page::append_decimal(out, spaced, line);
-    let parted = page::append(out, lined, b" ");
-    let started = page::append_hex(out, parted, start as u64, 8, true);
-    page::append(out, started, b"\n")
+    page.append(b"prom ");
+    page.append_decimal(number);
+    page.append(b" ");
+    page.append_decimal(line);
+    page.append(b" ");
+    page.append_hex(u64::from(start), 8, true);
+    page.append(b"\n");
 }
 
 // A register behind its name, in so many digits.
-fn register(out: &mut [u8], at: usize, name: &[u8], value: u64, width: usize) -> usize
-    ensures { Behind (page out.old at) (page out.new result) (register_text name.now value width) }
+fn register(page: &mut Page, name: &[u8], value: u64, width: usize)
+    ensures put { sheet page.new ≡ written (sheet page.old) (register_text name.now value width) }
+    ensures same { page.new.bytes.ghost_name ≡ page.old.bytes.ghost_name }
 {
-    let named = page::append(out, at, name);
-    page::append_hex(out, named, value, width, true)
+    page.append(name);
+    page.append_hex(value, width, true);
 }
 
-// 1 for a tag or a mark that is set.
-fn mark_number(mark: bool) -> u64
-    ensures { result ≡ mark_number mark }
+// A tag or a mark behind its name: 1 where it is set.
+#[tactic(auto, unfolding(crate::specs::Lines::mark_number))]
+fn mark(page: &mut Page, name: &[u8], mark: bool)
+    ensures put { sheet page.new ≡ written (sheet page.old) (register_text name.now (mark_number mark) 1) }
+    ensures same { page.new.bytes.ghost_name ≡ page.old.bytes.ghost_name }
 {
-    if mark { 1 } else { 0 }
+    register(page, name, u64::from(mark), 1);
 }
 
 // A pointer behind its name, and its tag.
-fn pointer(out: &mut [u8], at: usize, name: &[u8], p: Pointer) -> usize
-    ensures { Behind (page out.old at) (page out.new result) (pointer_text name.now p) }
+fn pointer(page: &mut Page, name: &[u8], p: Pointer)
+    ensures put { sheet page.new ≡ written (sheet page.old) (pointer_text name.now p) }
+    ensures same { page.new.bytes.ghost_name ≡ page.old.bytes.ghost_name }
 {
-    let pointed = register(out, at, name, p.address as u64, 8);
-    register(out, pointed, b" ", mark_number(p.tag), 1)
+    register(page, name, u64::from(p.address), 8);
+    mark(page, b" ", p.tag);
 }
 
 // The pointers of a channel.
-fn pointers(out: &mut [u8], at: usize, ga: Pointer, gb: Pointer, gc: Pointer, tp: Pointer) -> usize
-    ensures { Behind (page out.old at) (page out.new result) (pointers_text ga gb gc tp) }
+fn pointers(page: &mut Page, c: Channel)
+    ensures put { sheet page.new ≡ written (sheet page.old) (pointers_text c.ga c.gb c.gc c.tp) }
+    ensures same { page.new.bytes.ghost_name ≡ page.old.bytes.ghost_name }
 {
-    let a = pointer(out, at, b" ga ", ga);
-    let b = pointer(out, a, b" gb ", gb);
-    let c = pointer(out, b, b" gc ", gc);
-    pointer(out, c, b" tp ", tp)
+    pointer(page, b" ga ", c.ga);
+    pointer(page, b" gb ", c.gb);
+    pointer(page, b" gc ", c.gc);
+    pointer(page, b" tp ", c.tp);
 }
 
 // The numbers of a channel.
-fn numbers(
-    out: &mut [u8],
-    at: usize,
-    pp: u32,
-    bc: u16,
-    ix: u16,
-    cc: u16,
-    fields: u16,
-    mc: u16,
-    psw: u8,
-) -> usize
-    ensures { Behind (page out.old at) (page out.new result) (numbers_text pp bc ix cc fields mc psw) }
+fn numbers(page: &mut Page, c: Channel)
+    ensures put { sheet page.new ≡ written (sheet page.old) (numbers_text c.pp c.bc c.ix c.cc (joined c.fields) c.mc c.psw) }
+    ensures same { page.new.bytes.ghost_name ≡ page.old.bytes.ghost_name }
 {
-    let a = register(out, at, b" pp ", pp as u64, 8);
-    let b = register(out, a, b" bc ", bc as u64, 4);
-    let c = register(out, b, b" ix ", ix as u64, 4);
-    let d = register(out, c, b" cc ", cc as u64, 4);
-    let e = register(out, d, b" fields ", fields as u64, 4);
-    let f = register(out, e, b" mc ", mc as u64, 4);
-    register(out, f, b" psw ", psw as u64, 2)
+    register(page, b" pp ", u64::from(c.pp), 8);
+    register(page, b" bc ", u64::from(c.bc), 4);
+    register(page, b" ix ", u64::from(c.ix), 4);
+    register(page, b" cc ", u64::from(c.cc), 4);
+    register(
+        page,
+        b" fields ",
+        u64::from(machine::cc::joined(c.fields)),
+        4,
+    );
+    register(page, b" mc ", u64::from(c.mc), 4);
+    register(page, b" psw ", u64::from(c.psw), 2);
 }
 
 // 0 for idle, 1 for running, 2 for suspended.
+#[tactic(auto, unfolding(crate::specs::Lines::number_of_mode))]
 fn number_of_mode(mode: Mode) -> u64
     ensures { result ≡ number_of_mode mode }
 {
@@ -149,117 +151,108 @@ fn number_of_mode(mode: Mode) -> u64
 }
 
 // The mode of a channel, its armed mark and what it holds, which end its line.
-fn marks(out: &mut [u8], at: usize, mode: Mode, armed: bool, held: Held) -> usize
-    ensures { Behind (page out.old at) (page out.new result) (marks_text mode armed held) }
+fn marks(page: &mut Page, c: Channel)
+    ensures put { sheet page.new ≡ written (sheet page.old) (marks_text c.mode c.armed c.held) }
+    ensures same { page.new.bytes.ghost_name ≡ page.old.bytes.ghost_name }
 {
-    let moded = register(out, at, b" mode ", number_of_mode(mode), 1);
-    let marked = register(out, moded, b" arm ", mark_number(armed), 1);
-    let holding = register(
-        out,
-        marked,
+    register(page, b" mode ", number_of_mode(c.mode), 1);
+    mark(page, b" arm ", c.armed);
+    register(
+        page,
         b" held ",
-        machine::holdings::number(held) as u64,
+        u64::from(machine::holdings::number(c.held)),
         4,
     );
-    page::append(out, holding, b"\n")
+    page.append(b"\n");
 }
 
 // A channel's line of a dump.
-fn channel_line(out: &mut [u8], at: usize, name: &[u8], c: Channel) -> usize
-    ensures { Behind (page out.old at) (page out.new result) (channel_line name.now c) }
+fn channel_line(page: &mut Page, name: &[u8], c: Channel)
+    ensures put { sheet page.new ≡ written (sheet page.old) (channel_line name.now c) }
+    ensures same { page.new.bytes.ghost_name ≡ page.old.bytes.ghost_name }
 {
-    let ga = c.ga;
-    let gb = c.gb;
-    let gc = c.gc;
-    let tp = c.tp;
-    let mode = c.mode;
-    let held = c.held;
-    let named = page::append(out, at, name);
-    let pointed = pointers(out, named, ga, gb, gc, tp);
-    let fields = machine::cc::joined(c.fields);
-    let numbered = numbers(out, pointed, c.pp, c.bc, c.ix, c.cc, fields, c.mc, c.psw);
-    marks(out, numbered, mode, c.armed, held)
+    page.append(name);
+    pointers(page, c);
+    numbers(page, c);
+    marks(page, c);
 }
 
 // A buffer behind its name: its length, and the digest of its bytes.
-fn buffer(out: &mut [u8], at: usize, name: &[u8], bytes: &[u8]) -> usize
-    ensures { Behind (page out.old at) (page out.new result) (buffer_text name.now bytes.now) }
+fn buffer(page: &mut Page, name: &[u8], bytes: &[u8])
+    ensures put { sheet page.new ≡ written (sheet page.old) (buffer_text name.now bytes.now) }
+    ensures same { page.new.bytes.ghost_name ≡ page.old.bytes.ghost_name }
 {
-    let sized = register(out, at, name, bytes.len() as u64, 8);
-    register(out, sized, b" ", buffers::digest(bytes) as u64, 8)
+    register(page, name, bytes.len() as u64, 8);
+    register(page, b" ", u64::from(buffers::digest(bytes)), 8);
 }
 
 // What the board set up.
-fn board_marks(out: &mut [u8], at: usize, board: Board) -> usize
-    ensures { Behind (page out.old at) (page out.new result) (board_text board) }
+fn board_marks(page: &mut Page, board: Board)
+    ensures put { sheet page.new ≡ written (sheet page.old) (board_text board) }
+    ensures same { page.new.bytes.ghost_name ≡ page.old.bytes.ghost_name }
 {
-    let a = register(out, at, b" up ", mark_number(board.powered), 1);
-    let b = register(out, a, b" sysbus ", mark_number(board.sysbus), 1);
-    let c = register(out, b, b" soc ", mark_number(board.soc), 1);
-    register(out, c, b" grant ", mark_number(board.grant), 1)
+    mark(page, b" up ", board.powered);
+    mark(page, b" sysbus ", board.sysbus);
+    mark(page, b" soc ", board.soc);
+    mark(page, b" grant ", board.grant);
 }
 
 // A dump's line of what both channels share.
-fn shared_line(
-    out: &mut [u8],
-    at: usize,
-    cp: u32,
-    last: bool,
-    board: Board,
-    sys: &[u8],
-    io: &[u8],
-) -> usize
-    ensures { Behind (page out.old at) (page out.new result) (shared_line cp last board sys.now io.now) }
+fn shared_line(page: &mut Page, s: State, sys: &[u8], io: &[u8])
+    ensures put { sheet page.new ≡ written (sheet page.old) (shared_line s.cp s.last s.board sys.now io.now) }
+    ensures same { page.new.bytes.ghost_name ≡ page.old.bytes.ghost_name }
 {
-    let a = register(out, at, b"cp ", cp as u64, 8);
-    let b = register(out, a, b" last ", machine::states::number(last) as u64, 1);
-    let c = board_marks(out, b, board);
-    let d = buffer(out, c, b" sys ", sys);
-    let e = buffer(out, d, b" io ", io);
-    page::append(out, e, b"\n")
+    register(page, b"cp ", u64::from(s.cp), 8);
+    register(
+        page,
+        b" last ",
+        u64::from(machine::states::number(s.last)),
+        1,
+    );
+    board_marks(page, s.board);
+    buffer(page, b" sys ", sys);
+    buffer(page, b" io ", io);
+    page.append(b"\n");
 }
 
 // The three lines of a dump.
-pub fn dump(out: &mut [u8], at: usize, s: State, sys: &[u8], io: &[u8]) -> usize
-    ensures { Behind (page out.old at) (page out.new result) (dump_text s (lent sys.now io.now)) }
+pub fn dump(page: &mut Page, s: State, sys: &[u8], io: &[u8])
+    ensures put { sheet page.new ≡ written (sheet page.old) (dump_text s (lent sys.now io.now)) }
+    ensures same { page.new.bytes.ghost_name ≡ page.old.bytes.ghost_name }
 {
-    let first = s.first;
-    let second = s.second;
-    let board = s.board;
-    let a = channel_line(out, at, b"ch 1", first);
-    let b = channel_line(out, a, b"ch 2", second);
-    shared_line(out, b, s.cp, s.last, board, sys, io)
+    channel_line(page, b"ch 1", s.first);
+    channel_line(page, b"ch 2", s.second);
+    shared_line(page, s, sys, io);
 }
 
 // The byte at an index of a buffer, or two dashes past its end.
-fn byte(out: &mut [u8], at: usize, bytes: &[u8], index: usize) -> usize
-    ensures { Behind (page out.old at) (page out.new result) (byte_text bytes.now index) }
+fn byte(page: &mut Page, bytes: &[u8], index: usize)
+    ensures put { sheet page.new ≡ written (sheet page.old) (byte_text bytes.now index) }
+    ensures same { page.new.bytes.ghost_name ≡ page.old.bytes.ghost_name }
 {
-    if index < bytes.len() {
-        return register(out, at, b" ", bytes[index] as u64, 2);
+    match bytes.get(index) {
+        Some(byte) => register(page, b" ", u64::from(*byte), 2),
+        None => page.append(b" --"),
     }
-    page::append(out, at, b" --")
 }
 
 // Sixteen bytes from an index on.
-fn sixteen(out: &mut [u8], at: usize, bytes: &[u8], from: u32) -> usize
-    ensures { Behind (page out.old at) (page out.new result) (bytes_text 16 bytes.now from) }
+fn sixteen(page: &mut Page, bytes: &[u8], from: u32)
+    ensures put { sheet page.new ≡ written (sheet page.old) (bytes_text 16 bytes.now from) }
+    ensures same { page.new.bytes.ghost_name ≡ page.old.bytes.ghost_name }
 {
     let start = from as usize;
-    let mut i: usize = 0;
-    let mut to = at;
-    while i < 16 {
-        to = byte(out, to, bytes, start + i);
-        i += 1;
+    for offset in 0..16 {
+        byte(page, bytes, start + offset);
     }
-    to
 }
 
 // The line of sixteen bytes of a buffer.
-pub fn shown_line(out: &mut [u8], at: usize, bytes: &[u8], from: u32) -> usize
-    ensures { Behind (page out.old at) (page out.new result) (shown_line bytes.now from) }
+pub fn shown_line(page: &mut Page, bytes: &[u8], from: u32)
+    ensures put { sheet page.new ≡ written (sheet page.old) (shown_line bytes.now from) }
+    ensures same { page.new.bytes.ghost_name ≡ page.old.bytes.ghost_name }
 {
-    let named = page::append(out, at, b"show");
-    let shown = sixteen(out, named, bytes, from);
-    page::append(out, shown, b"\n")
+    page.append(b"show");
+    sixteen(page, bytes, from);
+    page.append(b"\n");
 }

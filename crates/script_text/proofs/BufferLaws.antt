@@ -4,20 +4,20 @@ use mathlib.Core.List.{List, [], ◌∷◌}
 use mathlib.Core.Path.{◌≡◌, refl, ap, ap₂, ◌∙◌}
 use Prim.Native.Nat.{ℕ, ◌+◌, ◌*◌, ◌≤◌, ◌<◌}
 use native.Mathlib.Omega.{arith}
-use lib.ListN.{length, drop, get_or, set, drop_of_length-le}
+use Rattle.std.proofs.Common.{◌⊎◌, inl, inr, unwrap_or, ◌%◌}
+use Rattle.std.proofs.lemmas.Bool.{cases_lt}
+use borrow.Author.Tests.{lt-ltb, le-ltb}
+use Rattle.script_text.specs.Text.{digit_of, digit_told}
+use lib.ListN.{length, drop, get_or, set}
+use Rattle.std.specs.List.{fold}
 use Rattle.script_text.specs.Buffers.{byte_of, bytes_written, digest_byte, digest_from}
-use Rattle.script_text.proofs.TextLaws.{from-here}
+use Rattle.script_text.proofs.TextLaws.{from-here, digit_most}
 
-module _ (d : ℕ) (s : List ℕ) (i : ℕ) where
-  -- with no byte left a digest is what was made
-  pub digest-end : length s ≤ i → digest_from d (drop i s) ≡ d
-  unfolding digest_from
-  digest-end h = ap (digest_from d) (drop_of_length-le s h)
-
-  -- one byte more of a digest
-  pub digest-next : i < length s → digest_from d (drop i s) ≡ digest_from (digest_byte d (get_or s i 0)) (drop (i + 1) s)
-  unfolding digest_from
-  digest-next h = ap (digest_from d) (from-here s i h)
+-- a digest is a fold
+pub digest_fold : (d : ℕ) (s : List ℕ) → digest_from d s ≡ fold (λ d b. digest_byte d b) d s
+unfolding digest_from
+digest_fold d [] = refl
+digest_fold d (b ∷ s) = digest_fold (digest_byte d b) s
 
 module _ (s : List ℕ) (at : ℕ) (digits : List ℕ) (i : ℕ) where
   -- two digits write a byte, and leave the rest to be written behind it
@@ -38,3 +38,13 @@ unfolding bytes_written
 written-end s at [] h = refl
 written-end s at (d ∷ []) h = refl
 written-end s at (high ∷ low ∷ digits) h = absurd (omega arith)
+
+-- what a digit that is none stands for in a byte
+pub digit_or_zero : (b : ℕ) → unwrap_or (digit_told b) 0 ≡ digit_of b % 16
+digit_or_zero b = go (cases_lt (digit_of b) 16)
+  where
+    go : (digit_of b < 16) ⊎ (16 ≤ digit_of b) → unwrap_or (digit_told b) 0 ≡ digit_of b % 16
+    go (inl h) = rw (lt-ltb (digit_of b) 16 h) (omega arith)
+    go (inr h) =
+        let none : digit_of b ≡ 16 = omega (arith, digit_most b) in
+        rw (le-ltb (digit_of b) 16 h, none)

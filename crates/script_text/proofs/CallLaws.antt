@@ -12,7 +12,7 @@ use Rattle.script_text.specs.declared.text.ScriptCall.{ScriptCall}
 use Rattle.script_text.specs.declared.text.ScriptCall.TheVariants.{Nothing, Unknown, Make, Put, Set, Attention, Step, Dump, Show, Listing, Load, Reset, PowerUp, Sweep}
 use Rattle.script_text.specs.declared.text.Words.{Words}
 use Rattle.script_text.specs.Names.{'none, 'make, 'put, 'set, 'ca, 'step, 'dump, 'show, 'list, 'prom, 'reset, 'power, 'sweep}
-use Rattle.script_text.specs.Text.{no_number, words_of}
+use Rattle.script_text.specs.Text.{no_number, number_in, words_of}
 use Rattle.script_text.specs.Registers.{fits_register}
 use Rattle.script_text.specs.Calls.{only, make_call, put_call, set_call, attention_call, step_call, bare_call, show_call, list_call, sweep_call, call_from, call_of, Limited}
 
@@ -81,18 +81,18 @@ unfolding call_from
 words-limited w =
     let name = w.first.name in
     either (eqb name 'none) Nothing _ tt
-    (either (eqb name 'make) _ _ (make-limited w.second.number w.third.number w.fourth.number w.fifth.name)
-    (either (eqb name 'put) _ _ (put-limited w.second.number w.third.number w.fourth.pairs w.fifth.name)
-    (either (eqb name 'set) _ _ (set-limited w.second.number w.third.name w.fourth.number w.fifth.name)
-    (either (eqb name 'ca) _ _ (attention-limited w.second.number w.third.name)
-    (either (eqb name 'step) _ _ (step-limited w.second.number w.third.name)
+    (either (eqb name 'make) _ _ (make-limited (number_in w.second.number) (number_in w.third.number) (number_in w.fourth.number) w.fifth.name)
+    (either (eqb name 'put) _ _ (put-limited (number_in w.second.number) (number_in w.third.number) w.fourth.pairs w.fifth.name)
+    (either (eqb name 'set) _ _ (set-limited (number_in w.second.number) w.third.name (number_in w.fourth.number) w.fifth.name)
+    (either (eqb name 'ca) _ _ (attention-limited (number_in w.second.number) w.third.name)
+    (either (eqb name 'step) _ _ (step-limited (number_in w.second.number) w.third.name)
     (either (eqb name 'dump) _ _ (bare-limited Dump w.second.name tt)
-    (either (eqb name 'show) _ _ (show-limited w.second.number w.third.number w.fourth.name)
-    (either (eqb name 'list) _ _ (list-limited w.second.number w.third.number w.fourth.number w.fifth.name)
+    (either (eqb name 'show) _ _ (show-limited (number_in w.second.number) (number_in w.third.number) w.fourth.name)
+    (either (eqb name 'list) _ _ (list-limited (number_in w.second.number) (number_in w.third.number) (number_in w.fourth.number) w.fifth.name)
     (either (eqb name 'prom) _ _ (bare-limited Load w.second.name tt)
     (either (eqb name 'reset) _ _ (bare-limited Reset w.second.name tt)
     (either (eqb name 'power) _ _ (bare-limited PowerUp w.second.name tt)
-    (either (eqb name 'sweep) _ Unknown (sweep-limited w.second.number w.third.number w.fourth.name) tt))))))))))))
+    (either (eqb name 'sweep) _ Unknown (sweep-limited (number_in w.second.number) (number_in w.third.number) w.fourth.name) tt))))))))))))
 
 -- the call of a line lends no more than `make` allows
 pub line-limited : (line : List ℕ) → Limited (call_of line)

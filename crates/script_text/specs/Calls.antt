@@ -5,7 +5,7 @@ use Rattle.script_text.specs.declared.text.ScriptCall.{ScriptCall}
 use Rattle.script_text.specs.declared.text.ScriptCall.TheVariants.{Nothing, Unknown, Make, Put, Set, Attention, Step, Dump, Show, Listing, Load, Reset, PowerUp, Sweep}
 use Rattle.script_text.specs.declared.text.Words.{Words}
 use Rattle.script_text.specs.Names.{'none, 'make, 'put, 'set, 'ca, 'step, 'dump, 'show, 'list, 'prom, 'reset, 'power, 'sweep}
-use Rattle.script_text.specs.Text.{no_number, words_of}
+use Rattle.script_text.specs.Text.{no_number, number_in, words_of}
 use Rattle.script_text.specs.Registers.{fits_register}
 
 -- a call where a test holds
@@ -62,18 +62,18 @@ unfoldable pub call_from : Words → ScriptCall
 call_from w =
     let name = w.first.name in
     pick (eqb name 'none) Nothing
-    (pick (eqb name 'make) (make_call w.second.number w.third.number w.fourth.number w.fifth.name)
-    (pick (eqb name 'put) (put_call w.second.number w.third.number w.fourth.pairs w.fifth.name)
-    (pick (eqb name 'set) (set_call w.second.number w.third.name w.fourth.number w.fifth.name)
-    (pick (eqb name 'ca) (attention_call w.second.number w.third.name)
-    (pick (eqb name 'step) (step_call w.second.number w.third.name)
+    (pick (eqb name 'make) (make_call (number_in w.second.number) (number_in w.third.number) (number_in w.fourth.number) w.fifth.name)
+    (pick (eqb name 'put) (put_call (number_in w.second.number) (number_in w.third.number) w.fourth.pairs w.fifth.name)
+    (pick (eqb name 'set) (set_call (number_in w.second.number) w.third.name (number_in w.fourth.number) w.fifth.name)
+    (pick (eqb name 'ca) (attention_call (number_in w.second.number) w.third.name)
+    (pick (eqb name 'step) (step_call (number_in w.second.number) w.third.name)
     (pick (eqb name 'dump) (bare_call Dump w.second.name)
-    (pick (eqb name 'show) (show_call w.second.number w.third.number w.fourth.name)
-    (pick (eqb name 'list) (list_call w.second.number w.third.number w.fourth.number w.fifth.name)
+    (pick (eqb name 'show) (show_call (number_in w.second.number) (number_in w.third.number) w.fourth.name)
+    (pick (eqb name 'list) (list_call (number_in w.second.number) (number_in w.third.number) (number_in w.fourth.number) w.fifth.name)
     (pick (eqb name 'prom) (bare_call Load w.second.name)
     (pick (eqb name 'reset) (bare_call Reset w.second.name)
     (pick (eqb name 'power) (bare_call PowerUp w.second.name)
-    (pick (eqb name 'sweep) (sweep_call w.second.number w.third.number w.fourth.name) Unknown))))))))))))
+    (pick (eqb name 'sweep) (sweep_call (number_in w.second.number) (number_in w.third.number) w.fourth.name) Unknown))))))))))))
 
 -- the call that a line is; one that has no word or begins with `#` is passed over
 unfoldable pub call_of : List ℕ → ScriptCall

@@ -1,5 +1,5 @@
 -- Lines and words: digits, numbers, pairs of digits, and where a word starts and ends.
-use Rattle.std.specs.Prelude.{Bool, true, false, ◌&&◌, List, [], ◌∷◌, ℕ, suc, ◌+◌, ◌*◌, ◌-◌, ◌%◌, ltb, leb, eqb, length, take, drop}
+use Rattle.std.specs.Prelude.{Bool, true, false, ◌&&◌, List, [], ◌∷◌, ℕ, suc, ◌+◌, ◌*◌, ◌-◌, ◌%◌, ltb, leb, eqb, length, take, drop, Option, Some, None}
 use Rattle.ground_rules.specs.Choice.{pick}
 use Rattle.script_text.specs.Names.{name_of}
 use Rattle.script_text.specs.declared.text.Span.{Span}
@@ -26,6 +26,19 @@ until_other b (x ∷ s) = pick (eqb x b) (suc (until_other b s)) 0
 -- more than eight digits can write: the number of a word that is none
 abbrev pub no_number : ℕ
 no_number = 4294967296
+
+-- a number that digits write, or none
+abbrev pub numbered : ℕ → Option ℕ
+numbered n = pick (ltb n no_number) (Some n) None
+
+-- the number, or more than any where there is none
+abbrev pub number_in : Option ℕ → ℕ
+number_in None = no_number
+number_in (Some n) = n
+
+-- the value of a hexadecimal digit, none for any other byte
+abbrev pub digit_told : ℕ → Option ℕ
+digit_told b = pick (ltb (digit_of b) 16) (Some (digit_of b)) None
 
 -- the number that digits write behind those that `n` already has
 unfoldable pub value_of : ℕ → List ℕ → ℕ
@@ -59,7 +72,7 @@ spanned line s = take (s.to - s.from) (drop s.from line)
 unfoldable pub line_word_at : List ℕ → ℕ → Word
 line_word_at line at =
     let w = spanned line (span_at line at) in
-    record { name = name_of w; number = numeral_of w; pairs = is_pairs w; to = (span_at line at).to }
+    record { name = name_of w; number = numbered (numeral_of w); pairs = is_pairs w; to = (span_at line at).to }
 
 -- the first five words of a line, each from where the one before it ends
 unfoldable pub words_of : List ℕ → Words

@@ -1,24 +1,15 @@
-// Buffers of bytes: cleared, written from hexadecimal digits, and digested.
-ghost use Rattle.std.specs.Prelude.{◌≡◌, length, replicate};
+// Buffers of bytes: written from hexadecimal digits, and digested.
+ghost use Rattle.std.specs.Prelude.{◌≡◌};
 ghost use Rattle.ground_rules.specs.Choice.{pick};
 ghost use Rattle.script_text.specs.Buffers.{byte_of, bytes_written, has_room, digest_byte, digest_of};
 
-// Makes every byte 0.
-pub fn clear(s: &mut [u8])
-    ensures { s.new ≡ replicate (length s.old) 0 }
-{
-    let mut i: usize = 0;
-    while i < s.len() {
-        s[i] = 0;
-        i += 1;
-    }
-}
+use crate::text;
 
 // The byte that two hexadecimal digits write.
 fn byte(high: u8, low: u8) -> u8
     ensures { result ≡ byte_of high low }
 {
-    (crate::text::digit(high) % 16 * 16 + crate::text::digit(low) % 16) as u8
+    (text::digit(high).unwrap_or(0) * 16 + text::digit(low).unwrap_or(0)) as u8
 }
 
 // Writes bytes, two digits each, from an index on, and answers true; or answers false where one lies past the end.
@@ -26,17 +17,12 @@ pub fn put(s: &mut [u8], at: usize, digits: &[u8]) -> bool
     ensures value { result ≡ has_room s.old at digits.now }
     ensures s_after { s.new ≡ pick result (bytes_written s.old at digits.now) s.old }
 {
-    let n = digits.len() / 2;
-    if s.len() < at {
+    let count = digits.len() / 2;
+    if s.len() < at || s.len() - at < count {
         return false;
     }
-    if s.len() - at < n {
-        return false;
-    }
-    let mut i: usize = 0;
-    while i < n {
+    for i in 0..count {
         s[at + i] = byte(digits[2 * i], digits[2 * i + 1]);
-        i += 1;
     }
     true
 }
@@ -50,14 +36,10 @@ fn digest_byte(d: u32, b: u8) -> u32
 }
 
 // The digest of bytes: 32-bit FNV-1a.
+#[tactic(auto, using(crate::proofs::BufferLaws::digest_fold), unfolding(crate::specs::Buffers::digest_of))]
 pub fn digest(s: &[u8]) -> u32
     ensures { result ≡ digest_of s.now }
 {
-    let mut d: u32 = 0x811c_9dc5;
-    let mut i: usize = 0;
-    while i < s.len() {
-        d = digest_byte(d, s[i]);
-        i += 1;
-    }
-    d
+    s.iter()
+        .fold(0x811c_9dc5, |digest, byte| digest_byte(digest, *byte))
 }

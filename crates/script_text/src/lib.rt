@@ -7,5 +7,5 @@ pub mod names;
 pub mod registers;
 // The call that a line is.
 pub mod text;
-// Buffers cleared, written and digested.
+// Buffers written and digested.
 pub mod buffers;

@@ -1,7 +1,9 @@
 // A line of the script program's text: its words, and the call that it is.
-ghost use Rattle.std.specs.Prelude.{◌≡◌, ◌+◌, ◌≤◌, length, drop, get_or};
-ghost use Rattle.script_text.specs.Names.{name_of};
-ghost use Rattle.script_text.specs.Text.{digit_of, until_same, until_other, numeral_of, all_digits, is_pairs, span_at, line_word_at, words_of, fourth_span};
+ghost use Rattle.std.specs.Prelude.{◌≡◌, ◌==◌, not, ◌+◌, ◌≤◌, ◌<◌, length, drop, get_or, position, unwrap_or, is_some, eqb, leb, ltb};
+ghost use Rattle.std.specs.List.{list_all};
+ghost use Rattle.ground_rules.specs.Choice.{pick};
+ghost use Rattle.script_text.specs.Names.{name_of, 'none};
+ghost use Rattle.script_text.specs.Text.{digit_told, numbered, number_in, until_same, until_other, numeral_of, is_pairs, span_at, line_word_at, words_of, fourth_span};
 ghost use Rattle.script_text.specs.Calls.{make_call, put_call, set_call, attention_call, step_call, bare_call, show_call, list_call, sweep_call, call_from, call_of};
 
 use crate::{names, registers};
@@ -36,7 +38,7 @@ pub struct Span {
 #[derive(Clone, Copy)]
 pub struct Word {
     pub name: u64,
-    pub number: u64,
+    pub number: Option<u32>,
     pub pairs: bool,
     pub to: usize,
 }
@@ -51,33 +53,31 @@ pub struct Words {
     pub fifth: Word,
 }
 
-// The number of a word that is none.
-const NO_NUMBER: u64 = 0x1_0000_0000;
-
-// The value of a hexadecimal digit; 16 where the byte is none.
-pub fn digit(b: u8) -> u32
-    ensures { result ≡ digit_of b }
+// The value of a hexadecimal digit.
+#[tactic(auto, unfolding(crate::specs::Text::digit_of))]
+pub fn digit(b: u8) -> Option<u32>
+    ensures { result ≡ digit_told b }
 {
-    let n = b as u32;
-    if n < 48 {
-        return 16;
+    match b {
+        b'0'..=b'9' => Some(u32::from(b - b'0')),
+        b'A'..=b'F' => Some(u32::from(b - b'A' + 10)),
+        b'a'..=b'f' => Some(u32::from(b - b'a' + 10)),
+        _ => None,
     }
-    if n < 58 {
-        return n - 48;
-    }
-    if n < 65 {
-        return 16;
-    }
-    if n < 71 {
-        return n - 55;
-    }
-    if n < 97 {
-        return 16;
-    }
-    if n < 103 {
-        return n - 87;
-    }
-    16
+}
+
+// Where the first byte stands that is b.
+fn same(s: &[u8], b: u8) -> Option<usize>
+    ensures { result ≡ position (λ x. x == b) s.now }
+{
+    s.iter().position(|byte| *byte == b)
+}
+
+// Where the first byte stands that is another than b.
+fn other(s: &[u8], b: u8) -> Option<usize>
+    ensures { result ≡ position (λ x. not (x == b)) s.now }
+{
+    s.iter().position(|byte| *byte != b)
 }
 
 // The first index from `at` on whose byte is b, or the length.
@@ -85,14 +85,11 @@ pub fn first_same(s: &[u8], at: usize, b: u8) -> usize
     ensures value { result ≡ at + until_same b (drop at s.now) }
     ensures lower_bound { (at ≤ result) × (at ≤ length s.now → result ≤ length s.now) }
 {
-    let mut i = at;
-    while i < s.len() {
-        if s[i] == b {
-            return i;
-        }
-        i += 1;
+    if s.len() < at {
+        return at;
     }
-    i
+    let rest = &s[at..];
+    at + same(rest, b).unwrap_or(rest.len())
 }
 
 // The first index from `at` on whose byte is another than b, or the length.
@@ -101,14 +98,8 @@ fn first_other(s: &[u8], at: usize, b: u8) -> usize
     ensures value { result ≡ at + until_other b (drop at s.now) }
     ensures lower_bound { (at ≤ result) × (result ≤ length s.now) }
 {
-    let mut i = at;
-    while i < s.len() {
-        if s[i] != b {
-            return i;
-        }
-        i += 1;
-    }
-    i
+    let rest = &s[at..];
+    at + other(rest, b).unwrap_or(rest.len())
 }
 
 // The name that a word makes; 0 for more than six characters.
@@ -118,57 +109,41 @@ fn name(w: &[u8]) -> u64
     if 6 < w.len() {
         return 0;
     }
-    let mut n: u64 = 1;
-    let mut i: usize = 0;
-    while i < w.len() {
-        n = n * 256 + w[i] as u64;
-        i += 1;
+    let mut name = 1;
+    // A loop, since the closure of a `fold` would have to show that its sum fits, whatever came before it.
+    for byte in w {
+        name = name * 256 + u64::from(*byte);
     }
-    n
+    name
 }
 
 // The number that a word is.
-fn number(w: &[u8]) -> u64
-    ensures { result ≡ numeral_of w.now }
+fn number(w: &[u8]) -> Option<u32>
+    ensures { result ≡ numbered (numeral_of w.now) }
 {
-    if w.len() == 0 {
-        return NO_NUMBER;
+    if w.is_empty() || 8 < w.len() {
+        return None;
     }
-    if 8 < w.len() {
-        return NO_NUMBER;
+    let mut number = 0;
+    // A loop, as in `name`.
+    for byte in w {
+        number = number * 16 + digit(*byte)?;
     }
-    let mut n: u64 = 0;
-    let mut i: usize = 0;
-    while i < w.len() {
-        let d = digit(w[i]);
-        if 16 <= d {
-            return NO_NUMBER;
-        }
-        n = n * 16 + d as u64;
-        i += 1;
-    }
-    n
+    Some(number)
 }
 
 // Whether every character of a word is a hexadecimal digit.
 fn all_digits(w: &[u8]) -> bool
-    ensures { result ≡ all_digits w.now }
+    ensures { result ≡ list_all (λ b. is_some (digit_told b)) w.now }
 {
-    let mut i: usize = 0;
-    while i < w.len() {
-        if 16 <= digit(w[i]) {
-            return false;
-        }
-        i += 1;
-    }
-    true
+    w.iter().all(|byte| digit(*byte).is_some())
 }
 
 // Whether a word is one pair of hexadecimal digits or more.
 fn is_pairs(w: &[u8]) -> bool
     ensures { result ≡ is_pairs w.now }
 {
-    (0 < w.len()) & (w.len() % 2 == 0) & all_digits(w)
+    !w.is_empty() & (w.len() % 2 == 0) & all_digits(w)
 }
 
 // Where the word from an index on lies.
@@ -189,14 +164,12 @@ fn word_at(line: &[u8], at: usize) -> Word
     ensures to_in_bounds { result.to ≤ length line.now }
 {
     let span = span_at(line, at);
-    let from = span.from;
-    let to = span.to;
-    let w = &line[from..to];
+    let word = &line[span.from..span.to];
     Word {
-        name: name(w),
-        number: number(w),
-        pairs: is_pairs(w),
-        to,
+        name: name(word),
+        number: number(word),
+        pairs: is_pairs(word),
+        to: span.to,
     }
 }
 
@@ -229,175 +202,143 @@ pub fn fourth_word(line: &[u8]) -> Span
     span_at(line, third.to)
 }
 
-// The call of `make` with its numbers, and the name of the word behind them.
-fn make_call(sys: u64, io: u64, cp: u64, after: u64) -> ScriptCall
-    ensures { result ≡ make_call sys io cp after }
+// Goes on where a call has no word more.
+fn ended(after: Word) -> Option<()>
+    ensures { is_some result ≡ eqb after.name 'none }
 {
-    if after != names::NONE {
-        return ScriptCall::Unknown;
+    (after.name == names::NONE).then_some(())
+}
+
+// A number that is no more than another.
+fn at_most(number: Option<u32>, most: u32) -> Option<u32>
+    requires { most < 4294967296 }
+    ensures { result ≡ pick (leb (number_in number) most) number None }
+{
+    number.filter(|n| *n <= most)
+}
+
+// Whether a space is I/O memory, 1, or system memory, 0.
+fn space(number: Option<u32>) -> Option<bool>
+    ensures { result ≡ pick (ltb (number_in number) 2) (Some (eqb (number_in number) 1)) None }
+{
+    match number? {
+        0 => Some(false),
+        1 => Some(true),
+        _ => None,
     }
-    if 0x10_0001 < sys {
-        return ScriptCall::Unknown;
-    }
-    if 0x1_0001 < io {
-        return ScriptCall::Unknown;
-    }
-    if NO_NUMBER <= cp {
-        return ScriptCall::Unknown;
-    }
-    ScriptCall::Make(sys as u32, io as u32, cp as u32)
+}
+
+// The call of `make`.
+#[tactic(auto, unfolding(crate::specs::Calls::make_call))]
+fn make_call(w: Words) -> Option<ScriptCall>
+    ensures { unwrap_or result ScriptCall.Unknown ≡ make_call (number_in w.second.number) (number_in w.third.number) (number_in w.fourth.number) w.fifth.name }
+{
+    ended(w.fifth)?;
+    let sys = at_most(w.second.number, 0x10_0001)?;
+    let io = at_most(w.third.number, 0x1_0001)?;
+    Some(ScriptCall::Make(sys, io, w.fourth.number?))
 }
 
 // The call of `put`.
-fn put_call(space: u64, address: u64, pairs: bool, after: u64) -> ScriptCall
-    ensures { result ≡ put_call space address pairs after }
+#[tactic(auto, unfolding(crate::specs::Calls::put_call))]
+fn put_call(w: Words) -> Option<ScriptCall>
+    ensures { unwrap_or result ScriptCall.Unknown ≡ put_call (number_in w.second.number) (number_in w.third.number) w.fourth.pairs w.fifth.name }
 {
-    if after != names::NONE {
-        return ScriptCall::Unknown;
+    ended(w.fifth)?;
+    if !w.fourth.pairs {
+        return None;
     }
-    if !pairs {
-        return ScriptCall::Unknown;
-    }
-    if 2 <= space {
-        return ScriptCall::Unknown;
-    }
-    if NO_NUMBER <= address {
-        return ScriptCall::Unknown;
-    }
-    ScriptCall::Put(space == 1, address as u32)
+    Some(ScriptCall::Put(space(w.second.number)?, w.third.number?))
 }
 
 // The call of `set`.
-fn set_call(channel: u64, register: u64, value: u64, after: u64) -> ScriptCall
-    ensures { result ≡ set_call channel register value after }
+#[tactic(auto, unfolding(crate::specs::Calls::set_call))]
+fn set_call(w: Words) -> Option<ScriptCall>
+    ensures { unwrap_or result ScriptCall.Unknown ≡ set_call (number_in w.second.number) w.third.name (number_in w.fourth.number) w.fifth.name }
 {
-    if after != names::NONE {
-        return ScriptCall::Unknown;
+    ended(w.fifth)?;
+    let channel = w.second.number?;
+    let value = w.fourth.number?;
+    if !registers::fits(channel, w.third.name, value) {
+        return None;
     }
-    if NO_NUMBER <= channel {
-        return ScriptCall::Unknown;
-    }
-    if NO_NUMBER <= value {
-        return ScriptCall::Unknown;
-    }
-    if !registers::fits(channel as u32, register, value as u32) {
-        return ScriptCall::Unknown;
-    }
-    ScriptCall::Set(channel as u32, register, value as u32)
+    Some(ScriptCall::Set(channel, w.third.name, value))
 }
 
 // The call of `ca`.
-fn attention_call(channel: u64, after: u64) -> ScriptCall
-    ensures { result ≡ attention_call channel after }
+#[tactic(auto, unfolding(crate::specs::Calls::attention_call))]
+fn attention_call(w: Words) -> Option<ScriptCall>
+    ensures { unwrap_or result ScriptCall.Unknown ≡ attention_call (number_in w.second.number) w.third.name }
 {
-    if after != names::NONE {
-        return ScriptCall::Unknown;
-    }
-    if NO_NUMBER <= channel {
-        return ScriptCall::Unknown;
-    }
-    ScriptCall::Attention(channel as u32)
+    ended(w.third)?;
+    Some(ScriptCall::Attention(w.second.number?))
 }
 
 // The call of `step`.
-fn step_call(lines: u64, after: u64) -> ScriptCall
-    ensures { result ≡ step_call lines after }
+#[tactic(auto, unfolding(crate::specs::Calls::step_call))]
+fn step_call(w: Words) -> Option<ScriptCall>
+    ensures { unwrap_or result ScriptCall.Unknown ≡ step_call (number_in w.second.number) w.third.name }
 {
-    if after != names::NONE {
-        return ScriptCall::Unknown;
-    }
-    if NO_NUMBER <= lines {
-        return ScriptCall::Unknown;
-    }
-    ScriptCall::Step(lines as u32)
+    ended(w.third)?;
+    Some(ScriptCall::Step(w.second.number?))
 }
 
 // A call of one word.
-fn bare_call(call: ScriptCall, after: u64) -> ScriptCall
-    ensures { result ≡ bare_call call after }
+#[tactic(auto, unfolding(crate::specs::Calls::bare_call))]
+fn bare_call(call: ScriptCall, w: Words) -> Option<ScriptCall>
+    ensures { unwrap_or result ScriptCall.Unknown ≡ bare_call call w.second.name }
 {
-    if after != names::NONE {
-        return ScriptCall::Unknown;
-    }
-    call
+    ended(w.second)?;
+    Some(call)
 }
 
 // The call of `show`.
-fn show_call(space: u64, address: u64, after: u64) -> ScriptCall
-    ensures { result ≡ show_call space address after }
+#[tactic(auto, unfolding(crate::specs::Calls::show_call))]
+fn show_call(w: Words) -> Option<ScriptCall>
+    ensures { unwrap_or result ScriptCall.Unknown ≡ show_call (number_in w.second.number) (number_in w.third.number) w.fourth.name }
 {
-    if after != names::NONE {
-        return ScriptCall::Unknown;
-    }
-    if 2 <= space {
-        return ScriptCall::Unknown;
-    }
-    if NO_NUMBER <= address {
-        return ScriptCall::Unknown;
-    }
-    ScriptCall::Show(space == 1, address as u32)
+    ended(w.fourth)?;
+    Some(ScriptCall::Show(space(w.second.number)?, w.third.number?))
 }
 
 // The call of `list`.
-fn list_call(space: u64, address: u64, length: u64, after: u64) -> ScriptCall
-    ensures { result ≡ list_call space address length after }
+#[tactic(auto, unfolding(crate::specs::Calls::list_call))]
+fn list_call(w: Words) -> Option<ScriptCall>
+    ensures { unwrap_or result ScriptCall.Unknown ≡ list_call (number_in w.second.number) (number_in w.third.number) (number_in w.fourth.number) w.fifth.name }
 {
-    if after != names::NONE {
-        return ScriptCall::Unknown;
-    }
-    if 2 <= space {
-        return ScriptCall::Unknown;
-    }
-    if NO_NUMBER <= address {
-        return ScriptCall::Unknown;
-    }
-    if NO_NUMBER <= length {
-        return ScriptCall::Unknown;
-    }
-    ScriptCall::Listing(space == 1, address as u32, length as u32)
+    ended(w.fifth)?;
+    Some(ScriptCall::Listing(space(w.second.number)?, w.third.number?, w.fourth.number?))
 }
 
 // The call of `sweep`.
-fn sweep_call(channel: u64, lines: u64, after: u64) -> ScriptCall
-    ensures { result ≡ sweep_call channel lines after }
+#[tactic(auto, unfolding(crate::specs::Calls::sweep_call))]
+fn sweep_call(w: Words) -> Option<ScriptCall>
+    ensures { unwrap_or result ScriptCall.Unknown ≡ sweep_call (number_in w.second.number) (number_in w.third.number) w.fourth.name }
 {
-    if after != names::NONE {
-        return ScriptCall::Unknown;
-    }
-    if NO_NUMBER <= channel {
-        return ScriptCall::Unknown;
-    }
-    if NO_NUMBER <= lines {
-        return ScriptCall::Unknown;
-    }
-    ScriptCall::Sweep(channel as u32, lines as u32)
+    ended(w.fourth)?;
+    Some(ScriptCall::Sweep(w.second.number?, w.third.number?))
 }
 
-// The call that words are.
-fn call_from(w: Words) -> ScriptCall
-    ensures { result ≡ call_from w }
+// The call that words are; none where they are no call.
+#[tactic(auto, unfolding(crate::specs::Calls::call_from))]
+fn call_from(w: Words) -> Option<ScriptCall>
+    ensures { unwrap_or result ScriptCall.Unknown ≡ call_from w }
 {
-    let first = w.first;
-    let second = w.second;
-    let third = w.third;
-    let fourth = w.fourth;
-    let fifth = w.fifth;
-    let name = first.name;
-    match name {
-        names::NONE => ScriptCall::Nothing,
-        names::MAKE => make_call(second.number, third.number, fourth.number, fifth.name),
-        names::PUT => put_call(second.number, third.number, fourth.pairs, fifth.name),
-        names::SET => set_call(second.number, third.name, fourth.number, fifth.name),
-        names::CA => attention_call(second.number, third.name),
-        names::STEP => step_call(second.number, third.name),
-        names::DUMP => bare_call(ScriptCall::Dump, second.name),
-        names::SHOW => show_call(second.number, third.number, fourth.name),
-        names::LIST => list_call(second.number, third.number, fourth.number, fifth.name),
-        names::PROM => bare_call(ScriptCall::Load, second.name),
-        names::RESET => bare_call(ScriptCall::Reset, second.name),
-        names::POWER => bare_call(ScriptCall::PowerUp, second.name),
-        names::SWEEP => sweep_call(second.number, third.number, fourth.name),
-        _ => ScriptCall::Unknown,
+    match w.first.name {
+        names::NONE => Some(ScriptCall::Nothing),
+        names::MAKE => make_call(w),
+        names::PUT => put_call(w),
+        names::SET => set_call(w),
+        names::CA => attention_call(w),
+        names::STEP => step_call(w),
+        names::DUMP => bare_call(ScriptCall::Dump, w),
+        names::SHOW => show_call(w),
+        names::LIST => list_call(w),
+        names::PROM => bare_call(ScriptCall::Load, w),
+        names::RESET => bare_call(ScriptCall::Reset, w),
+        names::POWER => bare_call(ScriptCall::PowerUp, w),
+        names::SWEEP => sweep_call(w),
+        _ => None,
     }
 }
 
@@ -405,15 +346,15 @@ fn call_from(w: Words) -> ScriptCall
 fn first_byte(line: &[u8]) -> u8
     ensures { result ≡ get_or line.now 0 0 }
 {
-    if 0 < line.len() { line[0] } else { 0 }
+    line.first().copied().unwrap_or(0)
 }
 
 // The call that a line is.
 pub fn call_of(line: &[u8]) -> ScriptCall
     ensures { result ≡ call_of line.now }
 {
-    if first_byte(line) == 35 {
+    if first_byte(line) == b'#' {
         return ScriptCall::Nothing;
     }
-    call_from(words_of(line))
+    call_from(words_of(line)).unwrap_or(ScriptCall::Unknown)
 }

@@ -25,35 +25,32 @@ use Rattle.turn_rules.specs.declared.Choice.TheVariants.{Ends, Steps}
 use Rattle.state_rules.specs.Calls.{served, answer_from, kind_number, step_left, step_served}
 use Rattle.state_rules.specs.Conditions.{Bytes}
 use Rattle.state_rules.specs.Layout.{bytes_of, state_in, is_state}
-use Rattle.step.specs.Turns.{turned}
+use Rattle.std.proofs.Common.{Result, Ok, Err, IfOk}
+use Rattle.ground_rules.specs.Refusals.{number_of, answered}
+use Rattle.ground_rules.specs.declared.Refusal.{Refusal}
+use Rattle.step.specs.Turns.{turned, turn_count}
 use Rattle.step.specs.declared.Turn.{Turn}
 use Rattle.state_rules.proofs.ForthLaws.{bytes_back}
 use Rattle.state_rules.proofs.BlockLaws.{done}
 
 -- ---- what is answered of it
 
-pub refused-left : (b : List ℕ) (byte : Bytes b) (h : is_state b ≡ true) (second : Bool) (t : Turn) → ¬ (t.number ≡ 0) → t.count ≡ 0
-    → (r : ℕ) → r ≡ answer_from t.number 0 0 0
-    → ((m : Buffers) → served r b m ≡ step_left (turned (state_in b) second t m) t.count) × ((m : Buffers) → state_in b ≡ (turned (state_in b) second t m).state)
-unfolding settled_step kind_number
-refused-left b byte h second t ne none r e =
-    (λ m. rw (ne_eqb t.number 0 ne, none, bytes_back b byte h, e), λ m. rw (ne_eqb t.number 0 ne))
+pub refused-left : (b : List ℕ) (byte : Bytes b) (h : is_state b ≡ true) (second : Bool) (f : Refusal)
+    → (r : ℕ) → r ≡ answer_from (number_of f) 0 0 0
+    → ((m : Buffers) → served r b m ≡ step_left (turned (state_in b) second (Err f) m) 0) × ((m : Buffers) → state_in b ≡ (turned (state_in b) second (Err f) m).state)
+unfolding kind_number
+refused-left b byte h second f r e = (λ m. rw (bytes_back b byte h, e), λ m. refl)
 
-pub done-left : (b : List ℕ) (second : Bool) (t : Turn) → t.number ≡ 0 → (x : List ℕ) (r : ℕ) → r ≡ answer_from 0 (channel_number second) (kind_number t.kind) t.count
+pub done-left : (b : List ℕ) (second : Bool) (t : Turn) → (x : List ℕ) (r : ℕ) → r ≡ answer_from 0 (channel_number second) (kind_number t.kind) t.count
     → x ≡ bytes_of (done (state_in b) second t.channel) → state_in x ≡ done (state_in b) second t.channel
-    → ((m : Buffers) → served r x m ≡ step_left (turned (state_in b) second t m) t.count) × ((m : Buffers) → state_in x ≡ (turned (state_in b) second t m).state)
-unfolding settled_step
-done-left b second t z x r e put whole = (λ m. rw (eq-eqb t.number 0 z, e, put), λ m. rw (eq-eqb t.number 0 z) whole)
+    → ((m : Buffers) → served r x m ≡ step_left (turned (state_in b) second (Ok t) m) t.count) × ((m : Buffers) → state_in x ≡ (turned (state_in b) second (Ok t) m).state)
+done-left b second t x r e put whole = (λ m. rw (e, put), λ m. whole)
 
 -- ---- the step that it is
 
-turned-number : (s : State) (second : Bool) (t : Turn) (m : Buffers) → (turned s second t m).number ≡ t.number
-unfolding settled_step
-turned-number s second t m = go (ℕ_discrete t.number 0)
-  where
-    go : Dec (t.number ≡ 0) → (turned s second t m).number ≡ t.number
-    go (yes z) = rw (eq-eqb t.number 0 z) (sym z)
-    go (no ne) = rw (ne_eqb t.number 0 ne)
+turned-number : (s : State) (second : Bool) (r : Result Turn Refusal) (m : Buffers) → (turned s second r m).number ≡ answered r
+turned-number s second (Ok t) m = refl
+turned-number s second (Err f) m = refl
 
 pub entry-refused : (s : State) (m : Buffers) (lines : ℕ) → ¬ (entry_number s m lines ≡ 0) → step_of s m lines ≡ refused_step (entry_number s m lines) s m
 unfolding step_of
@@ -72,13 +69,17 @@ ended-left b second c is x r e put whole = (λ m. rw (e, put, is), λ m. rw (who
 
 -- a done turn leaves a channel whose fields are those of its CC
 pub turn-agrees : (s : State) (m : Buffers) (lines : ℕ) (second : Bool) (t : Turn) (m' : Buffers) → entry_number s m lines ≡ 0 → choice_of s lines ≡ Steps second
-    → turned s second t m' ≡ chosen_step (Steps second) s m → t.number ≡ 0 → fields_agree t.channel ≡ true
-unfolding settled_step
-turn-agrees s m lines second t m' z who e done =
-    let is : turned s second t m' ≡ step_of s m lines = e ∙ sym (chosen-step s m lines (Steps second) z who) in
-    let left : with_last (with_channel s second t.channel) second ≡ (step_of s m lines).state = rw (eq-eqb t.number 0 done) at (ap (λ (o : Step). o.state) is) in
+    → turned s second (Ok t) m' ≡ chosen_step (Steps second) s m → fields_agree t.channel ≡ true
+turn-agrees s m lines second t m' z who e =
+    let is : turned s second (Ok t) m' ≡ step_of s m lines = e ∙ sym (chosen-step s m lines (Steps second) z who) in
+    let left : with_last (with_channel s second t.channel) second ≡ (step_of s m lines).state = ap (λ (o : Step). o.state) is in
     let agrees : agree (with_channel s second t.channel) ≡ true = sym (last-agree (with_channel s second t.channel) second) ∙ ap agree left ∙ step-agree s m lines (entry-agree s m lines z) in
     ap fields_agree (sym (put_same s second t.channel)) ∙ agree-channel-of (with_channel s second t.channel) second agrees
+
+pub turn-fits : (s : State) (m : Buffers) (lines : ℕ) (second : Bool) (r : Result Turn Refusal) (m' : Buffers) → entry_number s m lines ≡ 0 → choice_of s lines ≡ Steps second
+    → turned s second r m' ≡ chosen_step (Steps second) s m → IfOk r (λ t. fields_agree t.channel ≡ true)
+turn-fits s m lines second (Ok t) m' z who e = turn-agrees s m lines second t m' z who e
+turn-fits s m lines second (Err f) m' z who e = tt
 
 module _ (b : List ℕ) (m : Buffers) (h : is_state b ≡ true) (lines : ℕ) where
   -- a step of the state is what the call leaves
@@ -98,16 +99,16 @@ module _ (b : List ℕ) (m : Buffers) (h : is_state b ≡ true) (lines : ℕ) wh
       b r m (rw (a, bytes_back b byte h)) refl
 
   -- that of the chosen channel
-  pub turn-served : (s : State) → s ≡ state_in b → (choice : Choice) (second : Bool) (t : Turn) (m' : Buffers) → entry_number s m lines ≡ 0 → choice_of s lines ≡ choice
-      → turned s second t m' ≡ chosen_step choice s m → t.count ≡ counted t.number (touched_in choice s m)
-      → (x : List ℕ) (r : ℕ) → served r x m' ≡ step_left (turned (state_in b) second t m') t.count → state_in x ≡ (turned (state_in b) second t m').state
+  pub turn-served : (s : State) → s ≡ state_in b → (choice : Choice) (second : Bool) (t : Result Turn Refusal) (m' : Buffers) → entry_number s m lines ≡ 0 → choice_of s lines ≡ choice
+      → turned s second t m' ≡ chosen_step choice s m → turn_count t ≡ counted (answered t) (touched_in choice s m)
+      → (x : List ℕ) (r : ℕ) → served r x m' ≡ step_left (turned (state_in b) second t m') (turn_count t) → state_in x ≡ (turned (state_in b) second t m').state
       → (served r x m' ≡ step_served b m lines) × (is_state b ≡ true → state_in x ≡ (step_of (state_in b) m lines).state)
   unfolding step_count touched_by_step
   turn-served s of choice second t m' z who e count x r a f =
       let is : turned s second t m' ≡ step_of s m lines = e ∙ sym (chosen-step s m lines choice z who) in
-      let counts : t.count ≡ step_count s m lines =
+      let counts : turn_count t ≡ step_count s m lines =
       count ∙ rw who (ap (λ (n : ℕ). counted n (touched_in choice s m)) (sym (turned-number s second t m') ∙ ap (λ (o : Step). o.number) is)) in
-      left-served (turned (state_in b) second t m') t.count (rw of at is) (rw of at counts) x r m' a f
+      left-served (turned (state_in b) second t m') (turn_count t) (rw of at is) (rw of at counts) x r m' a f
 
   -- that of an external end, which touches nothing
   pub end-served : (s : State) → s ≡ state_in b → (second : Bool) → entry_number s m lines ≡ 0 → choice_of s lines ≡ Ends second

@@ -2,8 +2,9 @@
 // there.
 #![tactic(auto)]
 
-ghost use Rattle.std.specs.Prelude.{true, ◌≡◌, length};
+ghost use Rattle.std.specs.Prelude.{true, ◌≡◌, length, IfOk};
 ghost use Rattle.ground_rules.specs.Buffers.{Buffers, lent};
+ghost use Rattle.ground_rules.specs.Refusals.{number_of};
 ghost use Rattle.ground_rules.specs.States.{reset_state, fresh_of, agree, fields_agree};
 ghost use Rattle.attention_rules.specs.Attention.{attention_of};
 ghost use Rattle.attention_rules.specs.Power.{power_up_of};
@@ -11,9 +12,10 @@ ghost use Rattle.turn_rules.specs.Step.{chosen_step, step_of};
 ghost use Rattle.turn_rules.specs.declared.Choice.TheVariants.{Ends};
 ghost use Rattle.sweep_rules.specs.Sweep.{sweep_of};
 ghost use Rattle.state_rules.specs.Layout.{state_in, is_state, state_length};
-ghost use Rattle.step.specs.Turns.{turned};
+ghost use Rattle.step.specs.Turns.{turned, turn_count};
 ghost use Rattle.state_rules.specs.Calls.{made, served, step_left, answer_from, fresh_made, reset_made, power_served, attention_served, step_served, sweep_answer_from, sweep_served};
 
+use ground_rules::Refusal;
 use state_bytes::{answers, given, layout};
 use step::Turn;
 use turn_rules::Choice;
@@ -25,6 +27,13 @@ fn answer(number: u32, channel: u32, kind: u32, count: u32) -> u32
     number % 256 + channel % 4 * 256 + kind % 4 * 1024 + count % 16 * 4096
 }
 
+// The answer of a call that is refused.
+fn refused(refusal: Refusal) -> u32
+    ensures { result ≡ answer_from (number_of refusal) 0 0 0 }
+{
+    answer(refusal.number(), 0, 0, 0)
+}
+
 // Makes a fresh state of a CP.
 #[unsafe(no_mangle)]
 pub extern "C" fn iop89_fresh(state: &mut [u8], cp: u32) -> u32
@@ -32,7 +41,7 @@ pub extern "C" fn iop89_fresh(state: &mut [u8], cp: u32) -> u32
     ensures whole { length state.old ≡ state_length → state_in state.new ≡ (fresh_of cp).state }
 {
     if state.len() != 104 {
-        return 17;
+        return Refusal::NotAState.number();
     }
     let a = machine::states::fresh(cp);
     let fresh = a.state;
@@ -47,7 +56,7 @@ pub extern "C" fn iop89_reset(state: &mut [u8]) -> u32
     ensures whole { length state.old ≡ state_length → state_in state.new ≡ reset_state }
 {
     if state.len() != 104 {
-        return 17;
+        return Refusal::NotAState.number();
     }
     layout::put_state(state, machine::states::reset());
     answer(0, 0, 0, 0)
@@ -60,15 +69,15 @@ pub extern "C" fn iop89_power_up(state: &mut [u8], sys: &mut [u8], io: &mut [u8]
     ensures whole { length state.old ≡ state_length → state_in state.new ≡ (power_up_of (state_in state.old) (lent sys.old io.old)).state }
 {
     if state.len() != 104 {
-        return 17;
+        return Refusal::NotAState.number();
     }
-    let a = power::power_up(machine::states::reset(), sys, io);
-    if a.number != 0 {
-        return answer(a.number, 0, 0, 0);
+    match power::power_up(sys, io) {
+        Ok(done) => {
+            layout::put_state(state, done.state);
+            answer(0, 0, 0, done.count)
+        }
+        Err(refusal) => refused(refusal),
     }
-    let after = a.state;
-    layout::put_state(state, after);
-    answer(0, 0, 0, a.count)
 }
 
 // Gives a channel attention. Only that channel is taken from the bytes and put back: as a call of `attention::attention` the
@@ -84,24 +93,25 @@ pub extern "C" fn iop89_attention(
     ensures whole { is_state state.old ≡ true → state_in state.new ≡ (attention_of (state_in state.old) (lent sys.old io.old) channel).state }
 {
     if !layout::is_state(state) {
-        return 17;
+        return Refusal::NotAState.number();
     }
     if !machine::states::is_channel(channel) {
-        return 12;
+        return Refusal::OutOfRange.number();
     }
     let s = layout::state_in(state);
-    let given = machine::states::given_number(s, sys, io);
-    if given != 0 {
-        return answer(given, 0, 0, 0);
+    if let Err(refusal) = machine::states::check_given(s, sys, io) {
+        return refused(refusal);
     }
     let second = machine::states::is_second(channel);
     let block = machine::states::block(s, second);
-    let e = attention::planned(sys, io, block, layout::channel(state, second));
-    let writes = e.writes;
-    attention::effects::write(sys, io, writes);
-    let c = e.channel;
-    layout::put_order(state, second, c);
-    answer(e.number, 0, 0, e.count)
+    match attention::planned(sys, io, block, layout::channel(state, second)) {
+        Ok(upshot) => {
+            attention::effects::write(sys, io, upshot.writes);
+            layout::put_order(state, second, upshot.channel);
+            answer(0, 0, 0, upshot.count)
+        }
+        Err(refusal) => refused(refusal),
+    }
 }
 
 // The external end of a channel's transfer, put into the bytes.
@@ -116,23 +126,24 @@ fn ended(state: &mut [u8], second: bool) -> u32
 }
 
 // The answer of a channel's step, which is put into the bytes where it is done.
-fn answered(state: &mut [u8], second: bool, t: Turn) -> u32
-    requires { (is_state state.old ≡ true) × (agree (state_in state.old) ≡ true) × (t.number ≡ 0 → fields_agree t.channel ≡ true) × (¬ (t.number ≡ 0) → t.count ≡ 0) }
-    ensures left { (m : Buffers) → served result state.new m ≡ step_left (turned (state_in state.old) second t m) t.count }
-    ensures whole { (m : Buffers) → state_in state.new ≡ (turned (state_in state.old) second t m).state }
+fn stepped(state: &mut [u8], second: bool, turn: Result<Turn, Refusal>) -> u32
+    requires { (is_state state.old ≡ true) × (agree (state_in state.old) ≡ true) × IfOk turn (λ t. fields_agree t.channel ≡ true) }
+    ensures left { (m : Buffers) → served result state.new m ≡ step_left (turned (state_in state.old) second turn m) (turn_count turn) }
+    ensures whole { (m : Buffers) → state_in state.new ≡ (turned (state_in state.old) second turn m).state }
 {
-    if t.number != 0 {
-        return answer(t.number, 0, 0, 0);
+    match turn {
+        Ok(turn) => {
+            let kind = turn.kind;
+            layout::put_turn(state, second, turn.channel);
+            answer(
+                0,
+                machine::states::number(second),
+                answers::kind_number(kind),
+                turn.count,
+            )
+        }
+        Err(refusal) => refused(refusal),
     }
-    let c = t.channel;
-    let kind = t.kind;
-    layout::put_turn(state, second, c);
-    answer(
-        0,
-        machine::states::number(second),
-        answers::kind_number(kind),
-        t.count,
-    )
 }
 
 // Does one step of the machine. Only the channel that steps is taken from the bytes and put back; the other's stay where
@@ -143,19 +154,18 @@ pub extern "C" fn iop89_step(state: &mut [u8], sys: &mut [u8], io: &mut [u8], li
     ensures whole { is_state state.old ≡ true → state_in state.new ≡ (step_of (state_in state.old) (lent sys.old io.old) lines).state }
 {
     if !layout::is_state(state) {
-        return 17;
+        return Refusal::NotAState.number();
     }
     let s = layout::looked_at(state);
-    let number = given::entry_number(state, s, lines, sys, io);
-    if number != 0 {
-        return answer(number, 0, 0, 0);
+    if let Err(refusal) = given::check_entry(state, s, lines, sys, io) {
+        return refused(refusal);
     }
     match step::turns::choose(s, lines) {
-        Choice::Nobody => answer(1, 0, 0, 0),
+        Choice::Nobody => refused(Refusal::NothingSteps),
         Choice::Ends(second) => ended(state, second),
         Choice::Steps(second) => {
-            let t = step::channel_turn(s, second, layout::stepping(state, second), sys, io);
-            answered(state, second, t)
+            let turn = step::channel_turn(s, second, layout::stepping(state, second), sys, io);
+            stepped(state, second, turn)
         }
     }
 }
@@ -180,14 +190,15 @@ pub extern "C" fn iop89_sweep(
     ensures whole { is_state state.old ≡ true → state_in state.new ≡ (sweep_of (state_in state.old) (lent sys.old io.old) channel lines).state }
 {
     if !layout::is_state(state) {
-        return 17;
+        return Refusal::NotAState.number() as u64;
     }
-    let a = sweep::sweep(layout::state_in(state), sys, io, channel, lines);
-    if a.number != 0 {
-        return sweep_answer(a.number, 0, 0);
+    match sweep::sweep(layout::state_in(state), sys, io, channel, lines) {
+        Ok(swept) => {
+            let after = swept.state;
+            let second = machine::states::is_second(channel);
+            layout::put_step(state, second, machine::states::channel(after, second));
+            sweep_answer(0, swept.steps, swept.count)
+        }
+        Err(refusal) => sweep_answer(refusal.number(), 0, 0),
     }
-    let after = a.state;
-    let second = machine::states::is_second(channel);
-    layout::put_step(state, second, machine::states::channel(after, second));
-    sweep_answer(0, a.steps, a.count)
 }

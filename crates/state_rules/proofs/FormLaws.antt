@@ -1,5 +1,6 @@
 -- Every form of a state's parts is lawful: numbers, bytes, codes, truth values, modes and what is held; then pointers, the fields of CC, channels, what the board set up and the state, by their tables.
 -- Assumes nothing.
+use Rattle.std.proofs.Common.{Option, ℕ}
 use Prim.Native.Nat.{ℕ, zero, suc, ◌+◌, ◌^◌, ◌<◌, ◌≤◌}
 use borrow.Author.Tests.{lt-ltb, eq-eqb, eqb-true, ltb-true}
 use lib.Dec.{eqb, ltb}
@@ -20,7 +21,6 @@ use Rattle.ground_rules.specs.Values.{pointer}
 use Rattle.ground_rules.specs.declared.Board.{Board}
 use Rattle.ground_rules.specs.declared.Channel.{Channel}
 use Rattle.ground_rules.specs.declared.Fields.{Fields}
-use Rattle.ground_rules.specs.declared.Held.{Held}
 use Rattle.ground_rules.specs.declared.Mode.{Mode}
 use Rattle.ground_rules.specs.declared.Mode.TheVariants.{Idle, Running, Suspended}
 use Rattle.ground_rules.specs.declared.Pointer.{Pointer}
@@ -145,14 +145,14 @@ mark-lawful mark =
 
 -- ---- what is held
 
-pub held-width : (held : Held) → HeldFits held → held_number held < 256 ^ 2
+pub held-width : (held : Option ℕ) → HeldFits held → held_number held < 256 ^ 2
 held-width held h = omega (arith, held_small held h)
 
 pub held-told : (b : List ℕ) (at : ℕ) → Told (is_held_number (little_in 2 b at)) (NoHeld b at)
 unfolding is_held_number
 held-told b at = let n = little_in 2 b at in told-or (told-eqb n 0) (told_and (told-leb 256 n) (told-ltb n 512))
 
-abbrev pub held-lawful : Lawful Held held_form
+abbrev pub held-lawful : Lawful (Option ℕ) held_form
 held-lawful = record {
   Fits = HeldFits;
   Ranges = HeldFits;

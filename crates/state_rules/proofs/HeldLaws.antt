@@ -1,5 +1,6 @@
 -- The held byte of a channel: its number is below 512 where it is a byte, and every call leaves each channel a byte or nothing where it was given such and memory is of bytes.
 -- Assumes nothing.
+use Rattle.std.proofs.Common.{Option, ℕ, None, Some}
 use Prim.Native.Nat.{ℕ, ◌+◌, ◌<◌}
 use denote.Enum.Declared.{shape}
 use denote.Enum.Enum.{Enum}
@@ -13,15 +14,12 @@ use native.Mathlib.Decide.{ℕ_discrete}
 use native.Mathlib.Omega.{arith}
 use Rattle.ground_rules.specs.Choice.{pick}
 use Rattle.ground_rules.specs.Buffers.{Buffers, AllBytes, byte_at}
-use Rattle.ground_rules.specs.contracts.Held.{the_type}
 use Rattle.ground_rules.proofs.HoldingLaws.{HeldFits}
 use Rattle.ground_rules.proofs.OutcomeLaws.{settled-state}
 use Rattle.ground_rules.specs.Holdings.{held_number}
 use Rattle.ground_rules.specs.States.{idle_channel, channel_of, with_channel, with_last, is_second}
 use Rattle.ground_rules.specs.Updates.{with_control, with_transfer, holding, halted}
 use Rattle.ground_rules.specs.declared.Channel.{Channel}
-use Rattle.ground_rules.specs.declared.Held.{Held}
-use Rattle.ground_rules.specs.declared.Held.TheVariants.{NoByte, Byte}
 use Rattle.ground_rules.specs.declared.State.{State}
 use Rattle.attention_rules.specs.Attention.{order_to, channel_attended, ordered_memory, attention_number, attention_of}
 use Rattle.attention_rules.specs.Effects.{started, suspended, resumed, commanded, channel_ordered}
@@ -47,19 +45,15 @@ HeldFit s = HeldFits s.first.held × HeldFits s.second.held
 
 -- ---- as a number, and of its type
 
-pub held_small : (h : Held) → HeldFits h → held_number h < 512
+pub held_small : (h : Option ℕ) → HeldFits h → held_number h < 512
 unfolding held_number
-held_small NoByte f = lit< tt
-held_small (Byte byte) f = omega (arith, f)
+held_small None f = lit< tt
+held_small (Some byte) f = omega (arith, f)
 
-pub small-held : (h : Held) → held_number h < 512 → HeldFits h
+pub small-held : (h : Option ℕ) → held_number h < 512 → HeldFits h
 unfolding held_number
-small-held NoByte f = tt
-small-held (Byte byte) f = omega (arith, f)
-
-pub good-fits : (h : Held) (vs : List Val) → Is (Enum (shape the_type)) (the_type.to h) vs → HeldFits h
-good-fits NoByte vs g = tt
-good-fits (Byte byte) vs g = omega (arith, g.1.1.1.1.0)
+small-held None f = tt
+small-held (Some byte) f = omega (arith, f)
 
 -- ---- a channel of a state
 
@@ -125,7 +119,7 @@ part_held FirstFetch c m all = all (source c).pointer.tag (source c).pointer.add
 part_held (SecondFetch byte) c m all = tt
 part_held FirstStore c m all = go (first_meets c (data_of c m))
   where
-    go : (b : Bool) → HeldFits (pick b (moved_channel c (data_of c m)) (holding c (Byte (fetched_second c m)))).held
+    go : (b : Bool) → HeldFits (pick b (moved_channel c (data_of c m)) (holding c (Some (fetched_second c m)))).held
     go true = tt
     go false = second-small c m all
 part_held (SecondStore byte) c m all = tt

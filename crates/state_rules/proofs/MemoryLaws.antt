@@ -1,5 +1,6 @@
 -- Memory of bytes stays such: every call leaves it so where it was given it so, PSW of the channel that gets an attention is a byte, and what is held is a byte or nothing.
 -- Assumes nothing.
+use Rattle.std.proofs.Common.{Option, ℕ, None, Some}
 use Prim.Native.Nat.{ℕ, zero, suc, ◌+◌, ◌%◌, ◌/◌, ◌<◌}
 use lib.Dec.{eqb, lit<}
 use mathlib.Core.Bool.{Bool, true, false}
@@ -11,8 +12,6 @@ use Rattle.ground_rules.specs.Choice.{pick}
 use Rattle.ground_rules.specs.Outcomes.{outcome, settled}
 use Rattle.ground_rules.specs.States.{channel_of, is_second, block_of, busy_in}
 use Rattle.ground_rules.specs.declared.Channel.{Channel}
-use Rattle.ground_rules.specs.declared.Held.{Held}
-use Rattle.ground_rules.specs.declared.Held.TheVariants.{NoByte, Byte}
 use Rattle.ground_rules.specs.declared.Pointer.{Pointer}
 use Rattle.ground_rules.specs.declared.State.{State}
 use Rattle.attention_rules.specs.Attention.{order_to, ordered_memory, attention_number, attention_of}
@@ -132,11 +131,11 @@ part-fits : (c : Channel) → HeldFits c.held → PartFits (part_of c)
 unfolding part_of fetch_part store_part PartFits
 part-fits c h = go (fetches_apart c) (stores_apart c) c.held h
   where
-    go : (b d : Bool) (k : Held) → HeldFits k → PartFits (pick b (fetch_part k) (pick d (store_part k) Whole))
-    go true d NoByte f = tt
-    go true d (Byte byte) f = f
-    go false true NoByte f = tt
-    go false true (Byte byte) f = f
+    go : (b d : Bool) (k : Option ℕ) → HeldFits k → PartFits (pick b (fetch_part k) (pick d (store_part k) Whole))
+    go true d None f = tt
+    go true d (Some byte) f = f
+    go false true None f = tt
+    go false true (Some byte) f = f
     go false false k f = tt
 
 transfer-of-bytes : (c : Channel) (m : Buffers) → AllBytes m → HeldFits c.held → AllBytes (transfer_of c m).memory

@@ -1,9 +1,8 @@
 -- A state as the caller keeps it, 104 bytes (§11.1): version, CP, the channel that stepped last, what the board set up, then a block of 47 bytes for each channel. A table for each record says its parts in their order, each with its form; all else is computed from the tables.
-use Rattle.std.specs.Prelude.{Bool, ◌&&◌, List, [], ◌∷◌, ◌++◌, ℕ, eqb, length}
+use Rattle.std.specs.Prelude.{Bool, ◌&&◌, List, [], ◌∷◌, ◌++◌, ℕ, eqb, length, Option}
 use Rattle.ground_rules.specs.Choice.{pick}
 use Rattle.ground_rules.specs.Values.{pointer}
 use Rattle.ground_rules.specs.declared.Pointer.{Pointer}
-use Rattle.ground_rules.specs.declared.Held.{Held}
 use Rattle.ground_rules.specs.declared.Mode.{Mode}
 use Rattle.ground_rules.specs.States.{board_with}
 use Rattle.ground_rules.specs.declared.Board.{Board}
@@ -178,7 +177,7 @@ unfoldable pub channel_bytes : Channel → List ℕ
 channel_bytes c = bytes_by channel_rows c
 
 -- a channel by the order of its rows
-abbrev pub channel_from_parts : Pointer → Pointer → Pointer → Pointer → ℕ → ℕ → ℕ → ℕ → ℕ → ℕ → Mode → Bool → Fields → Held → Channel
+abbrev pub channel_from_parts : Pointer → Pointer → Pointer → Pointer → ℕ → ℕ → ℕ → ℕ → ℕ → ℕ → Mode → Bool → Fields → Option ℕ → Channel
 channel_from_parts ga gb gc tp pp bc ix cc mc psw mode armed fields held =
     record {
       ga = ga;

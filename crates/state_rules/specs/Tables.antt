@@ -1,7 +1,6 @@
 -- A record in bytes by a table: a row for each part, in their order, says what it is of the record and in which form it lies. Where a part lies, what the bytes are, what they stand for and whether they are in range is computed from the rows.
-use Rattle.std.specs.Prelude.{Bool, true, ◌&&◌, List, [], ◌∷◌, ◌++◌, ◌⊎◌, ◌≡◌, ℕ, zero, suc, ◌+◌, eqb, get_or, take}
+use Rattle.std.specs.Prelude.{Bool, true, ◌&&◌, List, [], ◌∷◌, ◌++◌, ◌⊎◌, ◌≡◌, ℕ, zero, suc, ◌+◌, eqb, get_or, take, Option}
 use Rattle.ground_rules.specs.Holdings.{held_number, held_from, is_held_number}
-use Rattle.ground_rules.specs.declared.Held.{Held}
 use Rattle.ground_rules.specs.declared.Mode.{Mode}
 use Rattle.state_rules.specs.Fields.{little_end, little_in, flag_of, flag_in, is_flag, NoFlag, mode_byte, mode_in, is_mode, NoMode, is_code, PastWidth, NoHeld}
 
@@ -44,7 +43,7 @@ abbrev pub mode_form : PartForm Mode
 mode_form = record { width = 1; values = 3; bytes = λ mode. mode_byte mode ∷ []; value = mode_in; is = is_mode; No = NoMode }
 
 -- what is held, as the number that stands for it
-abbrev pub held_form : PartForm Held
+abbrev pub held_form : PartForm (Option ℕ)
 held_form = record {
   width = 2;
   values = 0;

@@ -5,7 +5,10 @@ use borrow.Author.Tests.{eq-eqb, ne_eqb}
 use mathlib.Core.Bool.{Bool, true, false}
 use mathlib.Core.Path.{◌≡◌, refl, sym, ap, ◌∙◌}
 use native.Mathlib.Decide.{ℕ_discrete}
+use Rattle.std.proofs.Common.{Result, Ok, Err}
 use Rattle.ground_rules.specs.Buffers.{Buffers}
+use Rattle.ground_rules.specs.declared.Refusal.{Refusal}
+use Rattle.ground_rules.proofs.RefusalLaws.{number-some}
 use Rattle.ground_rules.specs.Psw.{transferring}
 use Rattle.ground_rules.specs.States.{channel_of, block_of, busy_in}
 use Rattle.ground_rules.specs.declared.Channel.{Channel}
@@ -42,15 +45,27 @@ settled-turn s m second false flag x e =
     let o = execute_of (channel_of s second) (busy_in (block_of s second)) m in
     rw (flag, rw flag at e) (kept-settled o.number s m o.memory second o.channel Instruction (execute-kept (channel_of s second) (busy_in (block_of s second)) m))
 
+-- put into its state, it leaves what the turn leaves
+turned-settled : (s : State) (m' : Buffers) (second : Bool) (c : Channel) (t : Result Turn Refusal) → settled_step (taken c t m').number s m' second (taken c t m').channel m' (taken c t m').kind ≡ turned s second t m'
+unfolding settled_step
+turned-settled s m' second c (Ok t) = refl
+turned-settled s m' second c (Err refusal) = rw (number-some refusal)
+
+memory-taken : (c : Channel) (t : Result Turn Refusal) (m' : Buffers) → m' ≡ (taken c t m').memory
+memory-taken c (Ok t) m' = refl
+memory-taken c (Err refusal) m' = refl
+
 own-touched : (s : State) (m : Buffers) (second : Bool) → turn_touched (channel_of s second) s m second ≡ touched_in (Steps second) s m
 unfolding turn_touched touched_in
 own-touched s m second = refl
 
 -- so the turn of a state's own channel is its step, and touches that step's bytes
-pub turn-steps : (s o : State) → s ≡ o → (m : Buffers) (second : Bool) (c : Channel) → c ≡ channel_of o second → (t : Turn) (m' : Buffers) → taken t m' ≡ turn_of c s m second
+pub turn-steps : (s o : State) → s ≡ o → (m : Buffers) (second : Bool) (c : Channel) → c ≡ channel_of o second → (t : Result Turn Refusal) (m' : Buffers) → taken c t m' ≡ turn_of c s m second
     → (turned s second t m' ≡ channel_step s m second) × (turn_touched c s m second ≡ touched_in (Steps second) s m)
 turn-steps s o same m second c of t m' e =
     let is : c ≡ channel_of s second = of ∙ ap (λ (x : State). channel_of x second) (sym same) in (
-      settled-turn s m second (transferring (channel_of s second).psw) refl (taken t m') (e ∙ ap (λ (x : Channel). turn_of x s m second) is),
+      sym (turned-settled s m' second c t)
+          ∙ ap (λ (x : Buffers). settled_step (taken c t m').number s x second (taken c t m').channel x (taken c t m').kind) (memory-taken c t m')
+          ∙ settled-turn s m second (transferring (channel_of s second).psw) refl (taken c t m') (e ∙ ap (λ (x : Channel). turn_of x s m second) is),
       ap (λ (x : Channel). turn_touched x s m second) is ∙ own-touched s m second,
     )

@@ -1,22 +1,36 @@
 -- What a channel's step comes to before it is put into a state, as the code hands it on.
-use Rattle.std.specs.Prelude.{Bool, List, ℕ}
+use Rattle.std.specs.Prelude.{Bool, List, ℕ, Result, Ok, Err}
 use Rattle.ground_rules.specs.Buffers.{Buffers}
 use Rattle.ground_rules.specs.Choice.{pick}
 use Rattle.ground_rules.specs.Places.{Place}
 use Rattle.ground_rules.specs.Psw.{transferring}
-use Rattle.ground_rules.specs.States.{block_of, busy_in}
+use Rattle.ground_rules.specs.Refusals.{number_of}
+use Rattle.ground_rules.specs.declared.Refusal.{Refusal}
+use Rattle.ground_rules.specs.States.{block_of, busy_in, channel_number, with_channel, with_last}
 use Rattle.ground_rules.specs.declared.Channel.{Channel}
 use Rattle.ground_rules.specs.declared.State.{State}
 use Rattle.instruction_rules.specs.Execute.{touched_by_instruction, execute_of}
 use Rattle.transfer_rules.specs.Steps.{touched_by_transfer, transfer_of}
-use Rattle.turn_rules.specs.Step.{Step, settled_step}
+use Rattle.turn_rules.specs.Step.{Step, done_step, refused_step}
 use Rattle.turn_rules.specs.declared.Kind.{Kind}
+use Rattle.turn_rules.specs.declared.Stepped.{Stepped}
 use Rattle.turn_rules.specs.declared.Kind.TheVariants.{Instruction, Transfer}
 use Rattle.step.specs.declared.Turn.{Turn}
 
+-- what a done step answers: its channel is put back and is the last to step (§5.6)
+abbrev pub done_as : State → Bool → Channel → Kind → ℕ → Stepped
+done_as s second c kind count =
+    record { count = count; state = with_last (with_channel s second c) second; channel = channel_number second; kind = kind }
+
 -- what it leaves of a state whose channel of this name has stepped, with the memories after it
-abbrev pub turned : State → Bool → Turn → Buffers → Step
-turned s second t m = settled_step t.number s m second t.channel m t.kind
+abbrev pub turned : State → Bool → Result Turn Refusal → Buffers → Step
+turned s second (Ok t) m = done_step s second t.channel m t.kind
+turned s second (Err refusal) m = refused_step (number_of refusal) s m
+
+-- how many bytes it read and stored: none where it is refused
+abbrev pub turn_count : Result Turn Refusal → ℕ
+turn_count (Ok t) = t.count
+turn_count (Err refusal) = 0
 
 -- a turn with the memories after it
 pub record Taken : Type 0 where
@@ -25,8 +39,10 @@ pub record Taken : Type 0 where
   pub memory : Buffers
   pub kind : Kind
 
-abbrev pub taken : Turn → Buffers → Taken
-taken t m = record { number = t.number; channel = t.channel; memory = m; kind = t.kind }
+-- the turn of a channel: a refused one leaves it as it was
+abbrev pub taken : Channel → Result Turn Refusal → Buffers → Taken
+taken c (Ok t) m = record { number = 0; channel = t.channel; memory = m; kind = t.kind }
+taken c (Err refusal) m = record { number = number_of refusal; channel = c; memory = m; kind = pick (transferring c.psw) Transfer Instruction }
 
 -- the turn of a channel that stands in the place of the one of this name: with XF a transfer step, else an instruction
 unfoldable pub turn_of : Channel → State → Buffers → Bool → Taken

@@ -10,22 +10,14 @@ use turn_rules::Choice;
 pub fn request(lines: u32, second: bool) -> bool
     ensures { result ≡ requested lines second }
 {
-    if second {
-        words::bit(lines, 1)
-    } else {
-        words::bit(lines, 0)
-    }
+    words::bit(lines, second as u32)
 }
 
 // Whether a channel's EXT is up.
 pub fn external(lines: u32, second: bool) -> bool
     ensures { result ≡ Choosing.external lines second }
 {
-    if second {
-        words::bit(lines, 3)
-    } else {
-        words::bit(lines, 2)
-    }
+    words::bit(lines, 2 + second as u32)
 }
 
 // Whether a channel's transfer ends by its EXT.

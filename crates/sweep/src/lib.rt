@@ -3,17 +3,17 @@
 
 ghost use Rattle.std.specs.Prelude.{true, ◌≡◌, ◌+◌, ◌≤◌, length};
 ghost use Rattle.ground_rules.specs.Buffers.{lent, within_limits};
-ghost use Rattle.transfer_rules.specs.Ends.{offset_of};
+ghost use Rattle.ground_rules.specs.Refusals.{answered};
 ghost use Rattle.block_rules.specs.Stages as Stages;
 ghost use Rattle.block_rules.specs.Totals as Totals;
 ghost use Rattle.sweep_rules.specs.Copies.{copied_on};
 ghost use Rattle.sweep_rules.specs.Ranges.{place_of, range_lent, ranges_apart};
 ghost use Rattle.sweep_rules.specs.Sweep as Sweep;
-ghost use Rattle.sweep_rules.specs.Sweep.{bytes_to_go, plain_fields, ranges_fit, sweep_number, swept_with, sweep_of};
+ghost use Rattle.sweep_rules.specs.Sweep.{bytes_to_go, plain_fields, ranges_fit, sweep_number, swept_by, sweep_of};
 ghost use Rattle.sweep.specs.Loops.{shifted, laid};
 ghost use Rattle.sweep.specs.Remainders.{remainder_of};
 
-use ground_rules::{Channel, Fields, Held, Pointer, State};
+use ground_rules::{Channel, Fields, Pointer, Refusal, State};
 use sweep_rules::Swept;
 
 // What a transfer has left: where its bytes come from, where they go, and how many they are.
@@ -24,27 +24,23 @@ pub struct Remainder {
     pub bytes: u32,
 }
 
-// Bytes of a buffer put elsewhere in it, one after the other.
+// Bytes of a buffer put elsewhere in it, one after the other; copy_within calls memmove, which C does not link.
 fn shift(buffer: &mut [u8], from: usize, into: usize, n: usize)
     requires { (from + n ≤ length buffer.old) × (into + n ≤ length buffer.old) }
     ensures { buffer.new ≡ shifted buffer.old from into n }
 {
-    let mut i = 0;
-    while i < n {
+    for i in 0..n {
         buffer[into + i] = buffer[from + i];
-        i += 1;
     }
 }
 
-// Bytes of a buffer put into another, one after the other.
+// Bytes of a buffer put into another, one after the other; copy_from_slice calls memcpy, which C does not link.
 fn lay(source: &[u8], from: usize, target: &mut [u8], into: usize, n: usize)
     requires { (from + n ≤ length source.now) × (into + n ≤ length target.old) }
     ensures { target.new ≡ laid source.now from target.old into n }
 {
-    let mut i = 0;
-    while i < n {
+    for i in 0..n {
         target[into + i] = source[from + i];
-        i += 1;
     }
 }
 
@@ -175,21 +171,18 @@ fn sweepable(s: State, sys: &[u8], io: &[u8], second: bool, lines: u32) -> bool
                 & ranges_fit(c, sys, io)))
 }
 
-// The refusal of a sweep, 0 for none.
-pub fn number(s: State, sys: &[u8], io: &[u8], channel: u32, lines: u32) -> u32
-    ensures { result ≡ sweep_number s (lent sys.now io.now) channel lines }
+// What is refused of a sweep: 12, then what every call is given, then 15.
+pub fn check_sweep(s: State, sys: &[u8], io: &[u8], channel: u32, lines: u32) -> Result<(), Refusal>
+    ensures { answered result ≡ sweep_number s (lent sys.now io.now) channel lines }
 {
     if !(machine::states::is_channel(channel) & (lines < 16)) {
-        return 12;
+        return Err(Refusal::OutOfRange);
     }
-    let given = machine::states::given_number(s, sys, io);
-    if given != 0 {
-        return given;
-    }
+    machine::states::check_given(s, sys, io)?;
     if sweepable(s, sys, io, machine::states::is_second(channel), lines) {
-        0
+        Ok(())
     } else {
-        15
+        Err(Refusal::NotSweepable)
     }
 }
 
@@ -217,57 +210,44 @@ fn total(c: Channel, n: u32) -> u32
     first + (n - first + 1) / 2
 }
 
-// The offset that TBC stands for.
-fn offset(code: u8) -> u32
-    ensures { result ≡ offset_of code }
-{
-    match code {
-        2 => 4,
-        3 => 8,
-        _ => 0,
-    }
-}
-
 // The channel at the end.
 fn finished(c: Channel, n: u32) -> Channel
     ensures { result ≡ Stages.finished c n }
 {
-    let f = c.fields;
-    let mut next = c;
-    next.ga = memory::onward(c.ga, n);
-    next.gb = memory::onward(c.gb, n);
-    next.tp = memory::onward(c.tp, offset(f.countEnd));
-    next.bc = 0;
-    next.psw = machine::psw::with(c.psw, machine::psw::XF, false);
-    machine::updates::holds(next, Held::NoByte)
+    let ended = Channel {
+        ga: memory::onward(c.ga, n),
+        gb: memory::onward(c.gb, n),
+        tp: memory::onward(c.tp, transfer::ends::offset(c.fields.countEnd as u32)),
+        bc: 0,
+        psw: machine::psw::with(c.psw, machine::psw::XF, false),
+        ..c
+    };
+    machine::updates::holds(ended, None)
 }
 
 // All bytes that a block transfer has left, in one go.
-pub fn sweep(s: State, sys: &mut [u8], io: &mut [u8], channel: u32, lines: u32) -> Swept
-    ensures { swept_with result (lent sys.new io.new) ≡ sweep_of s (lent sys.old io.old) channel lines }
+pub fn sweep(
+    s: State,
+    sys: &mut [u8],
+    io: &mut [u8],
+    channel: u32,
+    lines: u32,
+) -> Result<Swept, Refusal>
+    ensures { swept_by s result (lent sys.new io.new) ≡ sweep_of s (lent sys.old io.old) channel lines }
 {
-    let refusal = number(s, sys, io, channel, lines);
-    if refusal != 0 {
-        return Swept {
-            number: refusal,
-            steps: 0,
-            count: 0,
-            state: s,
-        };
-    }
+    check_sweep(s, sys, io, channel, lines)?;
     let second = machine::states::is_second(channel);
     let c = machine::states::channel(s, second);
     let rest = remainder_of(c);
     let from = rest.from;
     let into = rest.into;
     copy(sys, io, from, into, rest.bytes);
-    Swept {
-        number: 0,
+    Ok(Swept {
         steps: total(c, rest.bytes),
         count: 2 * rest.bytes,
         state: machine::states::with_last(
             machine::states::with_channel(s, second, finished(c, rest.bytes)),
             second,
         ),
-    }
+    })
 }

@@ -1,5 +1,7 @@
 -- The sweep call: its number, a chain in order, and its whole outcome (§3.9, §7.15).
-use Rattle.std.specs.Prelude.{Bool, true, false, not, ◌&&◌, ℕ, ◌*◌, ◌%◌, eqb, ltb}
+use Rattle.std.specs.Prelude.{Bool, true, false, not, ◌&&◌, ℕ, ◌*◌, ◌%◌, eqb, ltb, Result, Ok, Err}
+use Rattle.ground_rules.specs.Refusals.{number_of}
+use Rattle.ground_rules.specs.declared.Refusal.{Refusal}
 use Rattle.ground_rules.specs.Choice.{pick}
 use Rattle.ground_rules.specs.Buffers.{Buffers}
 use Rattle.ground_rules.specs.Outcomes.{first, unless, given_number}
@@ -72,13 +74,14 @@ pub record Sweep : Type 0 where
 abbrev pub swept_to : ℕ → State → Buffers → ℕ → ℕ → Sweep
 swept_to number s m steps count = record { number = number; state = s; memory = m; steps = steps; count = count }
 
--- what the code answers, together with the memories that it leaves
-abbrev pub swept_with : Swept → Buffers → Sweep
-swept_with a m = swept_to a.number a.state m a.steps a.count
-
 -- a refused sweep leaves what was given, no step and no byte (§3.3)
 abbrev pub refused_sweep : ℕ → State → Buffers → Sweep
 refused_sweep number s m = swept_to number s m 0 0
+
+-- what the code answers, together with the memories that it leaves: refused, it leaves the state as it was given
+abbrev pub swept_by : State → Result Swept Refusal → Buffers → Sweep
+swept_by s (Ok a) m = swept_to 0 a.state m a.steps a.count
+swept_by s (Err refusal) m = refused_sweep (number_of refusal) s m
 
 -- a done sweep: the bytes copied, the channel at demand 3's end, put back and last to step; the steps are demand 3's total, and each byte is read once
 -- and stored once (§7.15)

@@ -4,11 +4,9 @@
 
 use ground_rules::State;
 
-// What a sweep answers: its number, 0 for done, the steps that it stands for, how many bytes it read and stored, and the
-// state.
+// What a sweep that is done answers: the steps that it stands for, how many bytes it read and stored, and the state.
 #[derive(Clone, Copy)]
 pub struct Swept {
-    pub number: u32,
     pub steps: u32,
     pub count: u32,
     pub state: State,

@@ -13,8 +13,10 @@ ghost use Rattle.assembler.specs.Passes.{assembly_word};
 pub extern "C" fn iop89_load(text: &[u8], sys: &mut [u8]) -> u64
     ensures { packed_with result (buffers sys.new []) ≡ packed_with (word_for_c (load_of text.now (buffers sys.old []))) (load_of text.now (buffers sys.old [])).memory }
 {
-    let r = prom::load(text, sys);
-    r.number as u64 + r.start as u64 * 256 + r.line as u64 * 4294967296
+    match prom::load(text, sys) {
+        Ok(start) => start as u64 * 256,
+        Err(refused) => refused.why.number() as u64 + refused.line as u64 * 4294967296,
+    }
 }
 
 // Lists a part of memory: the byte at which it stopped × 4,294,967,296 + the characters written.

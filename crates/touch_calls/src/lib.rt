@@ -8,6 +8,7 @@ ghost use Rattle.state_rules.specs.Calls as Calls;
 ghost use Rattle.state_rules.specs.Calls.{answer_from};
 ghost use Rattle.touch_rules.specs.TouchCalls.{telling, touches_attention, touches_power_up, touches_step, touches_sweep};
 
+use ground_rules::Refusal;
 use state_bytes::{answers, given, layout};
 use touches::{Outlook, StepOutlook};
 use turn_rules::Choice;
@@ -46,7 +47,7 @@ pub extern "C" fn iop89_touches_attention(
     ensures { telling result places.new ≡ touches_attention state.now (lent sys.now io.now) channel places.old }
 {
     if !layout::is_state(state) {
-        return 17;
+        return Refusal::NotAState.number();
     }
     let s = layout::state_in(state);
     plain(touches::attention(s, sys, io, channel, places))
@@ -63,7 +64,7 @@ pub extern "C" fn iop89_touches_power_up(
     ensures { telling result places.new ≡ touches_power_up state.now (lent sys.now io.now) places.old }
 {
     if state.len() != 104 {
-        return 17;
+        return Refusal::NotAState.number();
     }
     plain(touches::power_up(sys, io, places))
 }
@@ -80,15 +81,14 @@ pub extern "C" fn iop89_touches_step(
     ensures { telling result places.new ≡ touches_step state.now (lent sys.now io.now) lines places.old }
 {
     if !layout::is_state(state) {
-        return 17;
+        return Refusal::NotAState.number();
     }
     let s = layout::looked_at(state);
-    let number = given::entry_number(state, s, lines, sys, io);
-    if number != 0 {
-        return answer(number, 0, 0, 0);
+    if let Err(refusal) = given::check_entry(state, s, lines, sys, io) {
+        return answer(refusal.number(), 0, 0, 0);
     }
     match step::turns::choose(s, lines) {
-        Choice::Nobody => answer(1, 0, 0, 0),
+        Choice::Nobody => answer(Refusal::NothingSteps.number(), 0, 0, 0),
         Choice::Ends(second) => answer(0, machine::states::number(second), 3, 0),
         Choice::Steps(second) => whole(touches::turn(
             s,
@@ -114,7 +114,7 @@ pub extern "C" fn iop89_touches_sweep(
     ensures { telling result places.new ≡ touches_sweep state.now (lent sys.now io.now) channel lines places.old }
 {
     if !layout::is_state(state) {
-        return 17;
+        return Refusal::NotAState.number();
     }
     let s = layout::state_in(state);
     plain(touches::sweep(s, sys, io, channel, lines, places))

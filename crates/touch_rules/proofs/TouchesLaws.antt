@@ -18,7 +18,7 @@ use Rattle.attention_rules.specs.declared.Order.{Order}
 use Rattle.instruction_rules.specs.Changes.{places_of}
 use Rattle.instruction_rules.specs.Execute.{decoded_at, deed_from, later_from, stages_from, instruction_stages}
 use Rattle.instruction_rules.specs.Operands.{bytes_at}
-use Rattle.instruction_rules.specs.Reading.{number_of}
+use Rattle.instruction_rules.specs.Reading.{decoded_number}
 use Rattle.schedule_rules.proofs.StoreLaws.{touched-apart}
 use Rattle.schedule_rules.specs.Counts.{stores_by}
 use Rattle.transfer_rules.specs.Parts.{part_of}
@@ -56,9 +56,9 @@ pub instruction-told : (m : Buffers) (c : Channel) (busy : ℕ)
     → let d = decoded_at m c.tp in
     let done = deed_from d m c busy in
     told_by_instruction m c busy
-    ≡ first_beyond m (told_up_to m (stage (bytes_at c.tp 2) (number_of d) ∷ stage (later_from d c) done.second ∷ []) done.reads (places_of done.change))
+    ≡ first_beyond m (told_up_to m (stage (bytes_at c.tp 2) (decoded_number d) ∷ stage (later_from d c) done.second ∷ []) done.reads (places_of done.change))
 unfolding told_by_instruction instruction_stages stages_from
 instruction-told m c busy =
     let d = decoded_at m c.tp in
     let done = deed_from d m c busy in
-    told-up-to m done.reads (places_of done.change) (stage (bytes_at c.tp 2) (number_of d) ∷ stage (later_from d c) done.second ∷ [])
+    told-up-to m done.reads (places_of done.change) (stage (bytes_at c.tp 2) (decoded_number d) ∷ stage (later_from d c) done.second ∷ [])

@@ -6,10 +6,10 @@ use denote.Triple.Clauses.{AtExit}
 use mathlib.Core.Path.{◌≡◌, sym, ◌∙◌}
 use mathlib.Core.List.{[]}
 use Rattle.ground_rules.specs.Buffers.{buffers}
-use Rattle.transfer_rules.specs.Steps.{transferred}
+use Rattle.ground_rules.specs.Refusals.{done_count}
 use Rattle.transfer.proofs.transfer.Kinds as transfer-kinds
 use Rattle.transfer.proofs.transfer.Reads as transfer-reads
-use Rattle.transfer.specs.Moves.{left_by_move}
+use Rattle.transfer.specs.Moves.{transferred_by, left_by_move, moved_count}
 use Rattle.transfer.proofs.comes_to.Kinds as comes-to-kinds
 use Rattle.transfer.proofs.comes_to.Reads as comes-to-reads
 use Rattle.transfer.proofs.is_half.Kinds as is-half-kinds
@@ -22,12 +22,12 @@ use Rattle.transfer.proofs.external_end.Kinds as external-end-kinds
 use Rattle.transfer.proofs.external_end.Reads as external-end-reads
 
 pub transfer-determined : (κs : Lfts 2) (a : Dens κs transfer-kinds.ps) (r q : (res_t transfer-kinds.r κs).Denot) (e f : AtExit (ended_of 2 transfer-kinds.ps transfer-kinds.r) κs)
-    → transfer-reads.Post κs a r e → transfer-reads.Post κs a q f → (transferred r.number r.channel (buffers e.1.0.now e.1.1.0.now) ≡ transferred q.number q.channel (buffers f.1.0.now f.1.1.0.now)) × (r.count ≡ q.count)
+    → transfer-reads.Post κs a r e → transfer-reads.Post κs a q f → (transferred_by a.0 r (buffers e.1.0.now e.1.1.0.now) ≡ transferred_by a.0 q (buffers f.1.0.now f.1.1.0.now)) × (done_count r ≡ done_count q)
 transfer-determined κs a r q e f p w = (p.0 ∙ sym w.0, p.1 ∙ sym w.1)
 
 -- what a step comes to: what is left by it, and its count
 pub comes-to-determined : (κs : Lfts 2) (a : Dens κs comes-to-kinds.ps) (r q : (res_t comes-to-kinds.r κs).Denot) (e f : AtExit (ended_of 2 comes-to-kinds.ps comes-to-kinds.r) κs)
-    → comes-to-reads.Post κs a r e → comes-to-reads.Post κs a q f → (left_by_move a.0 r (buffers e.1.0.now e.1.1.0.now) ≡ left_by_move a.0 q (buffers f.1.0.now f.1.1.0.now)) × (r.count ≡ q.count)
+    → comes-to-reads.Post κs a r e → comes-to-reads.Post κs a q f → (left_by_move a.0 r (buffers e.1.0.now e.1.1.0.now) ≡ left_by_move a.0 q (buffers f.1.0.now f.1.1.0.now)) × (moved_count r ≡ moved_count q)
 comes-to-determined κs a r q e f p w = (p.0 ∙ sym w.0, p.1 ∙ sym w.1)
 
 pub is-half-determined : (κs : Lfts 0) (a : Dens κs is-half-kinds.ps) (r q : (res_t is-half-kinds.r κs).Denot) (e f : AtExit (ended_of 0 is-half-kinds.ps is-half-kinds.r) κs)

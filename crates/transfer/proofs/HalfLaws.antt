@@ -1,5 +1,6 @@
 -- The laws of what a step comes to: what each half of a pair leaves, from what its code has seen, stored and worked out, and the part that is due.
 -- Assumes nothing.
+use Rattle.std.proofs.Common.{Some, Result, Ok, Err}
 use Prim.Native.Nat.{ℕ, suc}
 use lib.Dec.{eqb, eqb-suc-zero}
 use borrow.Author.Tests.{ne_eqb}
@@ -8,17 +9,18 @@ use mathlib.Core.Bool.{Bool, true, false, not, ◌&&◌}
 use mathlib.Core.Path.{◌≡◌, refl, sym, ap, ap₂, ◌∙◌}
 use Rattle.ground_rules.specs.Outcomes.{counted}
 use Rattle.ground_rules.specs.Updates.{holding}
+use Rattle.transfer.specs.declared.Move.{Move}
 use Rattle.transfer.specs.declared.Moved.{Moved}
 use Rattle.ground_rules.specs.declared.Channel.{Channel}
-use Rattle.ground_rules.specs.declared.Done.{Done}
-use Rattle.ground_rules.specs.declared.Held.TheVariants.{Byte}
+use Rattle.ground_rules.specs.declared.Refusal.{Refusal}
+use Rattle.ground_rules.specs.declared.Refusal.TheVariants.{BeyondMemory, BadTransferMode}
 use Rattle.ground_rules.specs.Buffers.{Buffers, touchable_at, byte_at, store_byte}
 use Rattle.ground_rules.specs.Places.{all_pass, all_touchable}
 use Rattle.ground_rules.proofs.ChoiceLaws.{apart, and-true}
 use Rattle.ground_rules.specs.Choice.{pick}
 use Rattle.transfer_rules.specs.Ends.{meets_tmc}
 use Rattle.transfer_rules.specs.Halves.{word_with}
-use Rattle.transfer.specs.Moves.{moved_refused, moved_holding, moved_on, landed, left_by_move, landed_by}
+use Rattle.transfer.specs.Moves.{landed, left_by_move, moved_count, landed_by}
 use Rattle.transfer_rules.specs.Parts.{Part, Whole, FirstFetch, SecondFetch, FirstStore, SecondStore, fetches_apart, stores_apart, part_of}
 use Rattle.transfer_rules.specs.Reads.{fetched, fetched_second, data_of, read_places}
 use Rattle.transfer_rules.specs.Sides.{source, destination, second_address, two_move}
@@ -31,27 +33,23 @@ use Rattle.transfer_rules.proofs.TouchLaws.{reads-touchable, places-touchable}
 
 -- ---- a step of any part
 
+-- a result of a step, with the memories that it leaves, is the part's outcome
+abbrev pub IsPart : Part → Channel → Buffers → Result Moved Refusal → Buffers → Type 0
+IsPart k c m r m' = (left_by_move c r m' ≡ step_by k c m) × (moved_count r ≡ count_by k c m)
+
 -- its mode is bad
-pub bad-left : (k : Part) (c : Channel) (m : Buffers) → bad_mode c ≡ true → (left_by_move c (moved_refused 5) m ≡ step_by k c m) × (0 ≡ count_by k c m)
-unfolding left_by_move
+pub bad-left : (k : Part) (c : Channel) (m : Buffers) → bad_mode c ≡ true → IsPart k c m (Err BadTransferMode) m
 bad-left k c m h = (sym (outcome-5 k c m h), counts-5 k c m h)
 
 module _ (k : Part) (c : Channel) (m : Buffers) (good : bad_mode c ≡ false) where
   -- a byte may not be touched
-  pub beyond-left : all_touchable m (touched_by k c m) ≡ false → (left_by_move c (moved_refused 2) m ≡ step_by k c m) × (0 ≡ count_by k c m)
-  unfolding left_by_move
+  pub beyond-left : all_touchable m (touched_by k c m) ≡ false → IsPart k c m (Err BeyondMemory) m
   beyond-left l = (sym (outcome-2 k c m good l), counts-2 k c m good l)
 
   module _ (all : all_touchable m (touched_by k c m) ≡ true) (m' : Buffers) (stored : memory_by k c m ≡ m') (count : ℕ) (counts : length (touched_by k c m) ≡ count) where
-    -- a byte is held
-    pub holds-left : (byte : ℕ) → channel_by k c m ≡ holding c (Byte byte) → (left_by_move c (moved_holding count byte) m' ≡ step_by k c m) × (count ≡ count_by k c m)
-    unfolding left_by_move landed
-    holds-left byte e = (sym (outcome-0 k c m good all ∙ ap₂ (λ (x : Channel) (y : Buffers). transferred 0 x y) e stored), sym counts ∙ counts-0 k c m good all)
-
-    -- the sides go on
-    pub goes_left : (by code : ℕ) → channel_by k c m ≡ landed_by c (suc by) code → (left_by_move c (moved_on count (suc by) code) m' ≡ step_by k c m) × (count ≡ count_by k c m)
-    unfolding left_by_move landed
-    goes_left by code e = (rw (eqb-suc-zero by) (sym (outcome-0 k c m good all ∙ ap₂ (λ (x : Channel) (y : Buffers). transferred 0 x y) e stored)), sym counts ∙ counts-0 k c m good all)
+    -- the channel is written
+    pub done-by : (step : Move) → channel_by k c m ≡ landed c step → IsPart k c m (Ok (record { count = count; then = step })) m'
+    done-by step e = (sym (outcome-0 k c m good all ∙ ap₂ (λ (x : Channel) (y : Buffers). transferred 0 x y) e stored), sym counts ∙ counts-0 k c m good all)
 
 -- ---- a move of all bytes by what is stored of them
 
@@ -66,7 +64,7 @@ module _ (c : Channel) (m : Buffers) where
   unfolding touched_by all_pass
   first-fetch-touches = and-true (touchable_at m (source c).pointer.tag (source c).pointer.address)
 
-  pub first-fetch-holds : channel_by FirstFetch c m ≡ holding c (Byte (byte_at m (source c).pointer.tag (source c).pointer.address))
+  pub first-fetch-holds : channel_by FirstFetch c m ≡ holding c (Some (byte_at m (source c).pointer.tag (source c).pointer.address))
   unfolding channel_by fetched
   first-fetch-holds = refl
 
@@ -110,11 +108,11 @@ module _ (c : Channel) (m : Buffers) (good : bad_mode c ≡ false) (h : stores_a
   first-store-stores = refl
 
   -- the first byte does not meet TMC: the second is held
-  pub first-store-holds : stores_two c (data_of c m) ≡ true → channel_by FirstStore c m ≡ holding c (Byte (data_of c m).second)
+  pub first-store-holds : stores_two c (data_of c m) ≡ true → channel_by FirstStore c m ≡ holding c (Some (data_of c m).second)
   unfolding channel_by data_of
   first-store-holds e = go (first_meets c (data_of c m)) (sym (singly-stored c (data_of c m) h) ∙ e)
     where
-      go : (b : Bool) → not b ≡ true → pick b (moved_channel c (data_of c m)) (holding c (Byte (fetched_second c m))) ≡ holding c (Byte (fetched_second c m))
+      go : (b : Bool) → not b ≡ true → pick b (moved_channel c (data_of c m)) (holding c (Some (fetched_second c m))) ≡ holding c (Some (fetched_second c m))
       go true k = apart (sym k)
       go false k = refl
 
@@ -123,7 +121,7 @@ module _ (c : Channel) (m : Buffers) (good : bad_mode c ≡ false) (h : stores_a
   unfolding channel_by
   first-store-goes e = go (first_meets c (data_of c m)) (sym (singly-stored c (data_of c m) h) ∙ e) ∙ landed-moved c (data_of c m) false e
     where
-      go : (b : Bool) → not b ≡ false → pick b (moved_channel c (data_of c m)) (holding c (Byte (fetched_second c m))) ≡ moved_channel c (data_of c m)
+      go : (b : Bool) → not b ≡ false → pick b (moved_channel c (data_of c m)) (holding c (Some (fetched_second c m))) ≡ moved_channel c (data_of c m)
       go true k = refl
       go false k = apart k
 
@@ -144,24 +142,8 @@ module _ (c : Channel) (m : Buffers) (byte : ℕ) where
 
 -- ---- the part that is due
 
-module _ (c : Channel) (r : Moved) (m m' : Buffers) where
+module _ (c : Channel) (r : Result Moved Refusal) (m m' : Buffers) where
   -- a step of it is the step
-  pub due-is : (k : Part) → part_of c ≡ k → (left_by_move c r m' ≡ step_by k c m) × (r.count ≡ count_by k c m) → (left_by_move c r m' ≡ transfer_of c m) × (r.count ≡ transfer_count c m)
+  pub due-is : (k : Part) → part_of c ≡ k → IsPart k c m r m' → (left_by_move c r m' ≡ transfer_of c m) × (moved_count r ≡ transfer_count c m)
   unfolding transfer_of transfer_count count_by touched_by_transfer
   due-is k e h = rw e h
-
-  -- what is left by it, refused or done
-  module _ (e : left_by_move c r m' ≡ transfer_of c m) (n : r.count ≡ transfer_count c m) where
-    -- a refused step counts nothing
-    counts-none : (r.number ≡ 0 → ⊥) → transfer_count c m ≡ 0
-    unfolding transfer_count counted left_by_move
-    counts-none ne = ap (λ (x : ℕ). pick (eqb x 0) (length (touched_by_transfer c m)) 0) (sym (ap (λ (o : Transfer). o.number) e)) ∙ rw (ne_eqb r.number 0 ne)
-
-    pub kept-left : (r.number ≡ 0 → ⊥) → (t : Done) → t ≡ record { number = r.number; count = 0; channel = c }
-        → (transferred t.number t.channel m' ≡ transfer_of c m) × (t.count ≡ transfer_count c m)
-    unfolding left_by_move
-    kept-left ne t et = rw et (sym (ap (λ (b : Bool). transferred r.number (pick b (landed c r) c) m') (ne_eqb r.number 0 ne)) ∙ e, sym (counts-none ne))
-
-    pub done-left : r.number ≡ 0 → (d : Channel) → d ≡ landed c r → (transferred 0 d m' ≡ transfer_of c m) × (r.count ≡ transfer_count c m)
-    unfolding left_by_move
-    done-left z d ed = rw ed (sym (ap (λ (x : ℕ). transferred x (pick (eqb x 0) (landed c r) c) m') z) ∙ e, n)

@@ -33,7 +33,7 @@ pub(crate) fn larger(a: u32, b: u32) -> u32
 }
 
 // The offset that a code stands for.
-fn offset(code: u32) -> u32
+pub fn offset(code: u32) -> u32
     ensures { result ≡ offset_of code }
 {
     match code {

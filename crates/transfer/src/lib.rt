@@ -3,18 +3,21 @@
 
 ghost use Rattle.std.specs.Prelude.{false, ◌≡◌, length};
 ghost use Rattle.ground_rules.specs.Buffers.{Buffers, lent};
-ghost use Rattle.transfer.specs.Setups.{setup_of};
+ghost use Rattle.ground_rules.specs.Refusals.{done_count};
 ghost use Rattle.transfer_rules.specs.Ends.{externally_ended};
 ghost use Rattle.transfer_rules.specs.Parts.{Whole, is_half, part_of};
 ghost use Rattle.transfer_rules.specs.Reads.{bytes_fetched};
-ghost use Rattle.transfer_rules.specs.Steps.{reads_by, accesses, bad_mode, step_by, count_by, transferred, transfer_of, transfer_count};
-ghost use Rattle.transfer.specs.Moves.{left_by_move};
+ghost use Rattle.transfer_rules.specs.Steps.{reads_by, accesses, bad_mode, step_by, count_by, transfer_of, transfer_count};
+ghost use Rattle.transfer.specs.Moves.{transferred_by, left_by_move, moved_count};
 
-use ground_rules::{Channel, Done, Held};
+use crate::moving::Moving;
+use ground_rules::{Channel, Done, Refusal};
 use transfer_rules::Side;
 
 // The two sides, and what the channel says of a step.
 pub mod sides;
+// A channel together with what it says.
+mod moving;
 // The bytes read.
 pub mod reads;
 // The masked compare, the codes of the ends, and what an end does.
@@ -37,108 +40,93 @@ pub struct Setup {
     pub intoWord: bool,
 }
 
-// What a step comes to before its channel is written: its number, how many bytes it read and stored, by how many bytes
-// the sides go on, 0 where a byte is held instead, the code of its end, and the byte that is held.
+// How a step leaves its channel: it holds a byte, or its sides go on by some bytes and an end of a code ends it, 0 for none.
+#[derive(Clone, Copy)]
+pub enum Move {
+    Holds(u8),
+    GoesOn { by: u32, code: u32 },
+}
+
+// What a step comes to before its channel is written: how many bytes it read and stored, and how it leaves its channel.
 #[derive(Clone, Copy)]
 pub struct Moved {
-    pub number: u32,
     pub count: u32,
-    pub by: u32,
-    pub code: u32,
-    pub byte: u8,
-}
-
-// Whether the mode of the transfer is refused.
-fn bad_mode(c: Channel, p: Setup) -> bool
-    requires { p ≡ setup_of c }
-    ensures { result ≡ bad_mode c }
-{
-    let f = c.fields;
-    let source = p.source;
-    let destination = p.destination;
-    (f.synchronised == 3) | (f.translates & (source.wide | destination.wide))
-}
-
-// A step that is refused, or none: the channel as it was.
-fn refused(c: Channel, number: u32) -> Done
-    ensures { result ≡ record { number = number; count = 0; channel = c } }
-{
-    Done {
-        number,
-        count: 0,
-        channel: c,
-    }
+    pub then: Move,
 }
 
 // How many bytes a whole step reads and stores, by whether two move, two are stored, and a byte is translated.
 fn count(two: bool, stored: bool, translated: bool) -> u32
     ensures { result ≡ accesses two stored translated }
 {
-    let moved = stores::one_or_two(two) as u32 + stores::one_or_two(stored) as u32;
-    if translated { moved + 1 } else { moved }
+    stores::one_or_two(two) as u32 + stores::one_or_two(stored) as u32 + translated as u32
 }
 
-// The whole move in one step.
-fn whole(c: Channel, p: Setup, sys: &mut [u8], io: &mut [u8]) -> Moved
-    requires { (p ≡ setup_of c) × (bad_mode c ≡ false) }
-    ensures left { left_by_move c result (lent sys.new io.new) ≡ step_by Whole c (lent sys.old io.old) }
-    ensures count { result.count ≡ count_by Whole c (lent sys.old io.old) }
-{
-    let fetched = reads::fetch(c, p, sys, io);
-    if !fetched.touchable {
-        return moves::refused(2);
+impl Moving {
+    // Whether the mode of the transfer is refused.
+    fn bad_mode(self) -> bool
+        ensures { result ≡ bad_mode self.channel }
+    {
+        let f = self.channel.fields;
+        let p = self.setup;
+        (f.synchronised == 3) | (f.translates & (p.source.wide | p.destination.wide))
     }
-    let bytes = fetched.bytes;
-    let done = stores::finish(c, p, bytes);
-    if !stores::put(p, done.two, bytes, sys, io) {
-        return moves::refused(2);
-    }
-    let f = c.fields;
-    moves::goes(
-        count(p.two, done.two, f.translates),
-        stores::one_or_two(done.two) as u32,
-        done.code,
-    )
-}
 
-// The part of a move that is due: a half of a pair, else the whole.
-fn part(c: Channel, p: Setup, sys: &mut [u8], io: &mut [u8]) -> Moved
-    requires { p ≡ setup_of c }
-    ensures left { left_by_move c result (lent sys.new io.new) ≡ transfer_of c (lent sys.old io.old) }
-    ensures count { result.count ≡ transfer_count c (lent sys.old io.old) }
-{
-    if bad_mode(c, p) {
-        return moves::refused(5);
+    // The whole move in one step.
+    fn whole(self, sys: &mut [u8], io: &mut [u8]) -> Result<Moved, Refusal>
+        requires { bad_mode self.channel ≡ false }
+        ensures left { left_by_move self.channel result (lent sys.new io.new) ≡ step_by Whole self.channel (lent sys.old io.old) }
+        ensures count { moved_count result ≡ count_by Whole self.channel (lent sys.old io.old) }
+    {
+        let Some(bytes) = self.fetch(sys, io) else {
+            return Err(Refusal::BeyondMemory);
+        };
+        let done = self.finish(bytes);
+        if !self.put(done.two, bytes, sys, io) {
+            return Err(Refusal::BeyondMemory);
+        }
+        Ok(moves::goes(
+            count(self.setup.two, done.two, self.channel.fields.translates),
+            stores::one_or_two(done.two) as u32,
+            done.code,
+        ))
     }
-    if halves::apart(c, p) {
-        return halves::due(c, p, sys, io);
+
+    // The part of a move that is due: a half of a pair, else the whole.
+    fn part(self, sys: &mut [u8], io: &mut [u8]) -> Result<Moved, Refusal>
+        ensures left { left_by_move self.channel result (lent sys.new io.new) ≡ transfer_of self.channel (lent sys.old io.old) }
+        ensures count { moved_count result ≡ transfer_count self.channel (lent sys.old io.old) }
+    {
+        if self.bad_mode() {
+            return Err(Refusal::BadTransferMode);
+        }
+        if self.is_half() {
+            return self.half(sys, io);
+        }
+        self.whole(sys, io)
     }
-    whole(c, p, sys, io)
 }
 
 // Whether a channel's next transfer step is one half of a pair.
 pub fn is_half(c: Channel) -> bool
     ensures { result ≡ is_half c }
 {
-    halves::apart(c, sides::plan(c))
+    Moving::of(c).is_half()
 }
 
 // How many bytes a channel's next transfer step reads: a half its own, a whole one all that move and the translated one.
 pub fn bytes_read(c: Channel) -> u32
     ensures { (m : Buffers) → result ≡ length (reads_by (part_of c) c m) }
 {
-    let p = sides::plan(c);
-    let f = c.fields;
-    if !halves::apart(c, p) {
-        return stores::one_or_two(p.two) as u32 + f.translates as u32;
+    let moving = Moving::of(c);
+    if !moving.is_half() {
+        return stores::one_or_two(moving.setup.two) as u32 + c.fields.translates as u32;
     }
-    if f.synchronised == 1 {
+    if c.fields.synchronised == 1 {
         return 1;
     }
-    let held = c.held;
-    match held {
-        Held::NoByte => 2,
-        Held::Byte(_) => 0,
+    match c.held {
+        None => 2,
+        Some(_) => 0,
     }
 }
 
@@ -146,42 +134,36 @@ pub fn bytes_read(c: Channel) -> u32
 pub fn bytes_fetched(c: Channel) -> u16
     ensures { result ≡ bytes_fetched c }
 {
-    let p = sides::plan(c);
-    stores::one_or_two(p.two)
+    stores::one_or_two(sides::plan(c).two)
 }
 
 // What one transfer step comes to; its channel is not written yet.
-pub fn comes_to(c: Channel, sys: &mut [u8], io: &mut [u8]) -> Moved
+pub fn comes_to(c: Channel, sys: &mut [u8], io: &mut [u8]) -> Result<Moved, Refusal>
     ensures left { left_by_move c result (lent sys.new io.new) ≡ transfer_of c (lent sys.old io.old) }
-    ensures count { result.count ≡ transfer_count c (lent sys.old io.old) }
+    ensures count { moved_count result ≡ transfer_count c (lent sys.old io.old) }
 {
-    part(c, sides::plan(c), sys, io)
+    Moving::of(c).part(sys, io)
 }
 
 // One transfer step: a half where one is due, else the whole move.
-pub fn transfer(c: Channel, sys: &mut [u8], io: &mut [u8]) -> Done
-    ensures left { transferred result.number result.channel (lent sys.new io.new) ≡ transfer_of c (lent sys.old io.old) }
-    ensures count { result.count ≡ transfer_count c (lent sys.old io.old) }
+pub fn transfer(c: Channel, sys: &mut [u8], io: &mut [u8]) -> Result<Done, Refusal>
+    ensures left { transferred_by c result (lent sys.new io.new) ≡ transfer_of c (lent sys.old io.old) }
+    ensures count { done_count result ≡ transfer_count c (lent sys.old io.old) }
 {
-    let p = sides::plan(c);
-    let m = part(c, p, sys, io);
-    if m.number != 0 {
-        return refused(c, m.number);
-    }
-    Done {
-        number: 0,
-        count: m.count,
-        channel: moves::left(c, p, m),
-    }
+    let moving = Moving::of(c);
+    let moved = moving.part(sys, io)?;
+    Ok(Done {
+        count: moved.count,
+        channel: moving.left(moved.then),
+    })
 }
 
 // The end that EXT brings: TP gains the offset of TX and XF clears, where TX is on; a held byte is dropped.
 pub fn external_end(c: Channel) -> Channel
     ensures { result ≡ externally_ended c }
 {
-    let f = c.fields;
     ends::ended(
-        machine::updates::holds(c, Held::NoByte),
-        f.externalEnd as u32,
+        machine::updates::holds(c, None),
+        c.fields.externalEnd as u32,
     )
 }

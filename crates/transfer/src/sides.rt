@@ -1,13 +1,13 @@
 // The two sides of a transfer, and how many bytes move between them.
 ghost use Rattle.std.specs.Prelude.{◌||◌, ◌≡◌};
-ghost use Rattle.ground_rules.specs.declared.Channel.{Channel};
 ghost use Rattle.ground_rules.specs.Sums.{sum20};
 ghost use Rattle.ground_rules.specs.Choice.{pick};
 ghost use Rattle.transfer_rules.specs.Sides as Sides;
-ghost use Rattle.transfer_rules.specs.Sides.{word_side, second_address};
+ghost use Rattle.transfer_rules.specs.Sides.{source, destination, word_side, second_address};
 ghost use Rattle.transfer.specs.Setups.{setup_of};
 
 use crate::Setup;
+use crate::moving::Moving;
 use ground_rules::{Channel, Pointer};
 use transfer_rules::Side;
 
@@ -55,18 +55,20 @@ pub fn second(s: Side) -> u32
     second_by(s, word(s))
 }
 
-// The address of the source's second byte.
-pub(crate) fn second_from(p: Setup) -> u32
-    ensures { (c : Channel) → p ≡ setup_of c → result ≡ second_address p.source }
-{
-    second_by(p.source, p.fromWord)
-}
+impl Moving {
+    // The address of the source's second byte.
+    pub(crate) fn second_from(self) -> u32
+        ensures { result ≡ second_address (source self.channel) }
+    {
+        second_by(self.setup.source, self.setup.fromWord)
+    }
 
-// The address of the destination's second byte.
-pub(crate) fn second_into(p: Setup) -> u32
-    ensures { (c : Channel) → p ≡ setup_of c → result ≡ second_address p.destination }
-{
-    second_by(p.destination, p.intoWord)
+    // The address of the destination's second byte.
+    pub(crate) fn second_into(self) -> u32
+        ensures { result ≡ second_address (destination self.channel) }
+    {
+        second_by(self.setup.destination, self.setup.intoWord)
+    }
 }
 
 // A pointer that goes some bytes on, if it moves.

@@ -13,7 +13,7 @@ use Rattle.ground_rules.proofs.PlaceLaws.{index-reduced, touchable-index, byte-r
 use Rattle.ground_rules.specs.Buffers.{Buffers, touchable_at, byte_at, store_byte}
 use Rattle.ground_rules.specs.Places.{all_touchable}
 use Rattle.ground_rules.specs.declared.Pointer.{Pointer}
-use Rattle.ground_rules.proofs.ChoiceLaws.{apart, pick_same, and-true, and-false, or-true, pick_under}
+use Rattle.ground_rules.proofs.ChoiceLaws.{apart, pick_same, and-false, or-true, pick_under}
 use Rattle.ground_rules.specs.Bits.{bit_of}
 use Rattle.ground_rules.specs.Sums.{sum20}
 use Rattle.transfer_rules.specs.Ends.{code_if, larger, ended_by}

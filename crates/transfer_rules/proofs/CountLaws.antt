@@ -1,5 +1,6 @@
 -- How long the list of a whole transfer step is, by what moves, what is stored and whether it is translated; and how many bytes each part reads.
 -- Assumes nothing.
+use Rattle.std.proofs.Common.{Option, ℕ, None, Some}
 use Prim.Native.Nat.{ℕ, suc, ◌+◌, ◌≤◌}
 use lib.ListN.{length, length-append}
 use mathlib.Core.Bool.{Bool, true, false}
@@ -10,8 +11,6 @@ use Rattle.ground_rules.specs.Choice.{pick}
 use Rattle.ground_rules.specs.Buffers.{Buffers}
 use Rattle.ground_rules.specs.Places.{Place}
 use Rattle.ground_rules.specs.declared.Channel.{Channel}
-use Rattle.ground_rules.specs.declared.Held.{Held}
-use Rattle.ground_rules.specs.declared.Held.TheVariants.{NoByte, Byte}
 use Rattle.transfer_rules.specs.Parts.{Part, Whole, FirstFetch, SecondFetch, FirstStore, SecondStore, is_half, fetch_part, store_part, part_of}
 use Rattle.transfer_rules.specs.Reads.{entry_of, data_of, also, read_places}
 use Rattle.transfer_rules.specs.Sides.{source, destination, second_address, two_move}
@@ -78,10 +77,10 @@ module _ (c : Channel) (m : Buffers) where
   unfolding reads_by fetch_part
   fetch-reads h e = rw (fetch-due c c.held (half-fetches c h e) refl) (one c.held)
     where
-      one : (held : Held) → 1 ≡ length (reads_by (fetch_part held) c m)
-      one NoByte = refl
-      one (Byte byte) = refl
+      one : (held : Option ℕ) → 1 ≡ length (reads_by (fetch_part held) c m)
+      one None = refl
+      one (Some byte) = refl
 
   -- else the first of two stores the word, the second nothing more
-  pub store-reads : (held : Held) → is_half c ≡ true → ¬ (c.fields.synchronised ≡ 1) → c.held ≡ held → length (reads_by (store_part held) c m) ≡ length (reads_by (part_of c) c m)
+  pub store-reads : (held : Option ℕ) → is_half c ≡ true → ¬ (c.fields.synchronised ≡ 1) → c.held ≡ held → length (reads_by (store_part held) c m) ≡ length (reads_by (part_of c) c m)
   store-reads held h ne e = let apart = half-stores c h ne in rw (store-due c held apart.0 apart.1 e)

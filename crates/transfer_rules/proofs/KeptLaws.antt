@@ -1,5 +1,6 @@
 -- What a transfer step and an external end leave alone: bytes, lengths, registers, tags, that a sound channel stays sound, and that the fields stay those of CC.
 -- Assumes nothing.
+use Rattle.std.proofs.Common.{Option, ℕ, None, Some}
 use Prim.Native.Nat.{ℕ, ◌+◌, ◌%◌}
 use borrow.Author.Tests.{eqb-false, lt-ltb, ne_eqb}
 use lib.Dec.{ltb, eqb, lit<}
@@ -24,8 +25,6 @@ use Rattle.ground_rules.specs.Choice.{pick}
 use Rattle.ground_rules.specs.Sums.{sum20}
 use Rattle.transfer_rules.specs.Ends.{meets_tmc, offset_of, ended_tp, ended_psw, ended_by, externally_ended}
 use Rattle.ground_rules.specs.Updates.{with_transfer, holding, dropped}
-use Rattle.ground_rules.specs.declared.Held.{Held}
-use Rattle.ground_rules.specs.declared.Held.TheVariants.{NoByte, Byte}
 use Rattle.transfer_rules.specs.Halves.{word_with}
 use Rattle.transfer_rules.specs.Parts.{Part, Whole, FirstFetch, SecondFetch, FirstStore, SecondStore, part_of}
 use Rattle.transfer_rules.specs.Reads.{fetched, fetched_second, data_of, also, read_places}
@@ -104,7 +103,7 @@ bytes-kept c m u b h =
 
 -- what holds of a channel that holds a byte and is otherwise as it was, and of one whose move is over, holds of a part's channel
 part_by : (P : Channel → Type 0) (c : Channel) (m : Buffers)
-    → ((byte : ℕ) → P (holding c (Byte byte)))
+    → ((byte : ℕ) → P (holding c (Some byte)))
     → ((stored : ℕ) (met : Bool) → P (move_over c stored met))
     → (k : Part) → P (channel_by k c m)
 unfolding channel_by moved_channel
@@ -113,14 +112,14 @@ part_by P c m held over FirstFetch = held (fetched c m)
 part_by P c m held over (SecondFetch byte) = let d = word_with byte c m in over (bytes_stored c d) (match_met c d)
 part_by P c m held over FirstStore = go (first_meets c (data_of c m))
   where
-    go : (b : Bool) → P (pick b (move_over c (bytes_stored c (data_of c m)) (match_met c (data_of c m))) (holding c (Byte (fetched_second c m))))
+    go : (b : Bool) → P (pick b (move_over c (bytes_stored c (data_of c m)) (match_met c (data_of c m))) (holding c (Some (fetched_second c m))))
     go true = over (bytes_stored c (data_of c m)) (match_met c (data_of c m))
     go false = held (fetched_second c m)
 part_by P c m held over (SecondStore byte) = over 2 (meets_tmc c.fields.matchEnd c.mc byte)
 
 -- what holds of the given channel, of one that holds a byte and of one whose move is over holds of the one after a step
 pub step_by : (P : Channel → Type 0) (c : Channel) (m : Buffers) → P c
-    → ((byte : ℕ) → P (holding c (Byte byte)))
+    → ((byte : ℕ) → P (holding c (Some byte)))
     → ((stored : ℕ) (met : Bool) → P (move_over c stored met))
     → P (transfer_of c m).channel
 step_by P c m same held over = by_number c m (λ o. P o.channel) (λ g. same) (λ g. same) (λ g. part_by P c m held over (part_of c))
@@ -253,19 +252,19 @@ unfolding ended_by ended_tp
 ended-sound c code = with-sound c c.ga c.gb (ended_tp c code) c.bc (ended_psw c code) (λ h. h) (λ h. h) (gained-small (not (eqb code 0)) c.tp (offset_of code))
 
 -- what is held plays no part in it
-held-sound : (c : Channel) (held : Held) → sound_channel c ≡ true → sound_channel (holding c held) ≡ true
+held-sound : (c : Channel) (held : Option ℕ) → sound_channel c ≡ true → sound_channel (holding c held) ≡ true
 unfolding sound_channel
 held-sound c held h = h
 
 -- and so over an external end
 pub external-sound : (c : Channel) → sound_channel c ≡ true → sound_channel (externally_ended c) ≡ true
 unfolding externally_ended
-external-sound c h = ended-sound (dropped c) c.fields.externalEnd (held-sound c NoByte h)
+external-sound c h = ended-sound (dropped c) c.fields.externalEnd (held-sound c None h)
 
 -- and over a transfer step
 pub transfer-sound : (c : Channel) (m : Buffers) → sound_channel c ≡ true → sound_channel (transfer_of c m).channel ≡ true
 unfolding move_over moved_by with_transfer
-transfer-sound c m h = step_by (λ x. sound_channel x ≡ true) c m h (λ byte. held-sound c (Byte byte) h) (λ by met. ended-sound (moved_by c by (count_after c)) (end_code c met) (held-sound (sides by (count_after c)) NoByte (moved by (count_after c))))
+transfer-sound c m h = step_by (λ x. sound_channel x ≡ true) c m h (λ byte. held-sound c (Some byte) h) (λ by met. ended-sound (moved_by c by (count_after c)) (end_code c met) (held-sound (sides by (count_after c)) None (moved by (count_after c))))
   where
     sides : ℕ → ℕ → Channel
     sides by bc = with_transfer c (moved_by c by bc).ga (moved_by c by bc).gb c.tp bc c.psw
@@ -285,4 +284,4 @@ external-agree c = same-agrees c (externally_ended c) refl refl
 
 pub transfer-agree : (c : Channel) (m : Buffers) → fields_agree c ≡ true → fields_agree (transfer_of c m).channel ≡ true
 unfolding move_over ended_by moved_by with_transfer
-transfer-agree c m h = step_by (λ x. fields_agree x ≡ true) c m h (λ byte. same-agrees c (holding c (Byte byte)) refl refl h) (λ by met. same-agrees c (move_over c by met) refl refl h)
+transfer-agree c m h = step_by (λ x. fields_agree x ≡ true) c m h (λ byte. same-agrees c (holding c (Some byte)) refl refl h) (λ by met. same-agrees c (move_over c by met) refl refl h)

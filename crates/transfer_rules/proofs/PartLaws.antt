@@ -1,13 +1,12 @@
 -- The laws of the parts of a move: which channel makes which, and what is known of the sides where a step is a half.
 -- Assumes nothing.
+use Rattle.std.proofs.Common.{Option, ℕ, None, Some}
 use Prim.Native.Nat.{ℕ, ◌+◌, ◌%◌}
 use borrow.Author.Tests.{ne_eqb}
 use lib.Dec.{eqb}
 use mathlib.Core.Bool.{Bool, true, false, not, ◌&&◌, ◌||◌}
 use mathlib.Core.Path.{◌≡◌, refl, sym, ap, ◌∙◌}
 use Rattle.ground_rules.specs.declared.Channel.{Channel}
-use Rattle.ground_rules.specs.declared.Held.{Held}
-use Rattle.ground_rules.specs.declared.Held.TheVariants.{NoByte, Byte}
 use Rattle.ground_rules.proofs.ChoiceLaws.{apart, both_left, both_right, or-false}
 use Rattle.ground_rules.specs.Buffers.{Buffers}
 use Rattle.ground_rules.specs.Choice.{pick}
@@ -60,22 +59,22 @@ fetch-is : (c : Channel) → is_fetch (part_of c) ≡ fetches_apart c
 unfolding part_of is_fetch fetch_part store_part
 fetch-is c = go (fetches_apart c) (stores_apart c) c.held
   where
-    go : (a b : Bool) (h : Held) → is_fetch (pick a (fetch_part h) (pick b (store_part h) Whole)) ≡ a
-    go true b NoByte = refl
-    go true b (Byte byte) = refl
-    go false true NoByte = refl
-    go false true (Byte byte) = refl
+    go : (a b : Bool) (h : Option ℕ) → is_fetch (pick a (fetch_part h) (pick b (store_part h) Whole)) ≡ a
+    go true b None = refl
+    go true b (Some byte) = refl
+    go false true None = refl
+    go false true (Some byte) = refl
     go false false h = refl
 
 store_is : (c : Channel) → is_store (part_of c) ≡ not (fetches_apart c) && stores_apart c
 unfolding part_of is_store fetch_part store_part
 store_is c = go (fetches_apart c) (stores_apart c) c.held
   where
-    go : (a b : Bool) (h : Held) → is_store (pick a (fetch_part h) (pick b (store_part h) Whole)) ≡ not a && b
-    go true b NoByte = refl
-    go true b (Byte byte) = refl
-    go false true NoByte = refl
-    go false true (Byte byte) = refl
+    go : (a b : Bool) (h : Option ℕ) → is_store (pick a (fetch_part h) (pick b (store_part h) Whole)) ≡ not a && b
+    go true b None = refl
+    go true b (Some byte) = refl
+    go false true None = refl
+    go false true (Some byte) = refl
     go false false h = refl
 
 -- who makes a fetch of two has its fetches apart
@@ -153,11 +152,11 @@ unfolding is_half fetches_apart
 half-stores c h ne = let off = ne_eqb c.fields.synchronised 1 ne in (rw off, ap (λ (b : Bool). (b && (two_move c && not (word_side (source c)))) || stores_apart c) (sym off) ∙ h)
 
 -- and so the part is told by what is held
-pub fetch-due : (c : Channel) (held : Held) → fetches_apart c ≡ true → c.held ≡ held → part_of c ≡ fetch_part held
+pub fetch-due : (c : Channel) (held : Option ℕ) → fetches_apart c ≡ true → c.held ≡ held → part_of c ≡ fetch_part held
 unfolding part_of
 fetch-due c held h e = rw (h, e)
 
-pub store-due : (c : Channel) (held : Held) → fetches_apart c ≡ false → stores_apart c ≡ true → c.held ≡ held → part_of c ≡ store_part held
+pub store-due : (c : Channel) (held : Option ℕ) → fetches_apart c ≡ false → stores_apart c ≡ true → c.held ≡ held → part_of c ≡ store_part held
 unfolding part_of
 store-due c held f h e = rw (f, h, e)
 
@@ -175,7 +174,7 @@ not-half c = go (fetches_apart c) (stores_apart c)
 
 -- BC falls by 2 there, as if both bytes had gone, and nothing is held
 pub first-store-met : (c : Channel) (m : Buffers) → part_of c ≡ FirstStore → first_meets c (data_of c m) ≡ true
-    → ((channel_by FirstStore c m).bc ≡ (c.bc + 65534) % 65536) × ((channel_by FirstStore c m).held ≡ NoByte)
+    → ((channel_by FirstStore c m).bc ≡ (c.bc + 65534) % 65536) × ((channel_by FirstStore c m).held ≡ None)
 unfolding channel_by cut_short moved_channel move_over ended_by moved_by with_transfer
 first-store-met c m e h =
     let cut : cut_short c (data_of c m) ≡ true = rw (stores-singly c (first-store-apart c e), h) in

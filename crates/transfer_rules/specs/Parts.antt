@@ -1,9 +1,7 @@
 -- Which part of a move a transfer step makes (§7.14): all of it, or one half of a pair, between which the channel holds a byte.
-use Rattle.std.specs.Prelude.{Bool, not, ◌&&◌, ◌||◌, ℕ, eqb}
+use Rattle.std.specs.Prelude.{Bool, not, ◌&&◌, ◌||◌, ℕ, eqb, Option, None, Some}
 use Rattle.ground_rules.specs.Choice.{pick}
 use Rattle.ground_rules.specs.declared.Channel.{Channel}
-use Rattle.ground_rules.specs.declared.Held.{Held}
-use Rattle.ground_rules.specs.declared.Held.TheVariants.{NoByte, Byte}
 use Rattle.transfer_rules.specs.Sides.{source, word_side, two_move, stored_singly}
 
 -- all of a move; of two fetches that a store of the word follows the first, or the second, whose first byte was held; of two stores of a word that
@@ -28,14 +26,14 @@ unfoldable pub is_half : Channel → Bool
 is_half c = fetches_apart c || stores_apart c
 
 -- of two fetches the first where nothing is held, the second where a byte is
-unfoldable pub fetch_part : Held → Part
-fetch_part NoByte = FirstFetch
-fetch_part (Byte byte) = SecondFetch byte
+unfoldable pub fetch_part : Option ℕ → Part
+fetch_part None = FirstFetch
+fetch_part (Some byte) = SecondFetch byte
 
 -- of two stores likewise
-unfoldable pub store_part : Held → Part
-store_part NoByte = FirstStore
-store_part (Byte byte) = SecondStore byte
+unfoldable pub store_part : Option ℕ → Part
+store_part None = FirstStore
+store_part (Some byte) = SecondStore byte
 
 -- the part that a channel's next transfer step makes; one that is no half of a pair is whole, whether a byte is held or not
 unfoldable pub part_of : Channel → Part

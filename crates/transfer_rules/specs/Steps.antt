@@ -1,5 +1,5 @@
 -- One transfer step of a channel: the bytes it touches, its refusals and its outcome (§7).
-use Rattle.std.specs.Prelude.{Bool, true, not, ◌&&◌, ◌||◌, List, [], ◌∷◌, ◌++◌, ℕ, ◌+◌, eqb}
+use Rattle.std.specs.Prelude.{Bool, true, not, ◌&&◌, ◌||◌, List, [], ◌∷◌, ◌++◌, ℕ, ◌+◌, eqb, Some}
 use Rattle.ground_rules.specs.Choice.{pick}
 use Rattle.ground_rules.specs.Buffers.{Buffers, store_byte}
 use Rattle.ground_rules.specs.Places.{Place}
@@ -7,7 +7,6 @@ use Rattle.ground_rules.specs.declared.Channel.{Channel}
 use Rattle.ground_rules.specs.Outcomes.{unless, counted}
 use Rattle.ground_rules.specs.Stages.{Stage, stage, stages_number}
 use Rattle.ground_rules.specs.Updates.{holding}
-use Rattle.ground_rules.specs.declared.Held.TheVariants.{Byte}
 use Rattle.transfer_rules.specs.Sides.{source, destination, second_address}
 use Rattle.transfer_rules.specs.Parts.{Part, Whole, FirstFetch, SecondFetch, FirstStore, SecondStore, part_of}
 use Rattle.transfer_rules.specs.Reads.{fetched, fetched_second, data_of, read_places}
@@ -43,9 +42,9 @@ reads_by (SecondStore byte) c m = []
 -- what a step of a part makes of the channel: a first half holds a byte and changes no other register, unless a match ends it there; of a second store TMC looks at the byte that was held
 unfoldable pub channel_by : Part → Channel → Buffers → Channel
 channel_by Whole c m = moved_channel c (data_of c m)
-channel_by FirstFetch c m = holding c (Byte (fetched c m))
+channel_by FirstFetch c m = holding c (Some (fetched c m))
 channel_by (SecondFetch byte) c m = moved_channel c (word_with byte c m)
-channel_by FirstStore c m = pick (first_meets c (data_of c m)) (moved_channel c (data_of c m)) (holding c (Byte (fetched_second c m)))
+channel_by FirstStore c m = pick (first_meets c (data_of c m)) (moved_channel c (data_of c m)) (holding c (Some (fetched_second c m)))
 channel_by (SecondStore byte) c m = move_over c 2 (meets_tmc c.fields.matchEnd c.mc byte)
 
 -- what it stores: a first fetch nothing, a second fetch the word, a first store the first byte, a second store the one that was held

@@ -1,7 +1,9 @@
 -- The step call: its number, a chain in order, and its whole outcome (§3.6, §5.5).
-use Rattle.std.specs.Prelude.{Bool, ℕ, eqb, ltb}
+use Rattle.std.specs.Prelude.{Bool, ℕ, eqb, ltb, Result, Ok, Err}
 use Rattle.ground_rules.specs.Choice.{pick}
 use Rattle.ground_rules.specs.Buffers.{Buffers}
+use Rattle.ground_rules.specs.Refusals.{number_of}
+use Rattle.ground_rules.specs.declared.Refusal.{Refusal}
 use Rattle.ground_rules.specs.declared.Channel.{Channel}
 use Rattle.ground_rules.specs.declared.State.{State}
 use Rattle.ground_rules.specs.Psw.{transferring}
@@ -28,24 +30,22 @@ pub record Step : Type 0 where
 abbrev pub stepped : ℕ → State → Buffers → ℕ → Kind → Step
 stepped number s m channel kind = record { number = number; state = s; memory = m; channel = channel; kind = kind }
 
--- what a call answers, together with the memories that it leaves
-abbrev pub left : Stepped → Buffers → Step
-left a m = stepped a.number a.state m a.channel a.kind
-
--- a refused step answers the state as it was, of no channel and no kind, and no byte touched (§3.3)
-abbrev pub refused_as : ℕ → State → Stepped
-refused_as number s = record { number = number; count = 0; state = s; channel = 0; kind = Nothing }
-
--- a done step puts its channel back and makes it last (§5.6)
-abbrev pub done_as : State → Bool → Channel → Kind → ℕ → Stepped
-done_as s second c kind count =
-    record { number = 0; count = count; state = with_last (with_channel s second c) second; channel = channel_number second; kind = kind }
-
+-- a refused step leaves the state as it was, of no channel and no kind (§3.3)
 abbrev pub refused_step : ℕ → State → Buffers → Step
-refused_step number s m = left (refused_as number s) m
+refused_step number s m = stepped number s m 0 Nothing
 
 abbrev pub done_step : State → Bool → Channel → Buffers → Kind → Step
 done_step s second c m kind = stepped 0 (with_last (with_channel s second c) second) m (channel_number second) kind
+
+-- what a call answers, together with the memories that it leaves: a refused one leaves the state that it was given
+abbrev pub stepped_by : State → Result Stepped Refusal → Buffers → Step
+stepped_by s (Ok a) m = stepped 0 a.state m a.channel a.kind
+stepped_by s (Err refusal) m = refused_step (number_of refusal) s m
+
+-- how many bytes it read and stored: none where it is refused
+abbrev pub stepped_count : Result Stepped Refusal → ℕ
+stepped_count (Ok a) = a.count
+stepped_count (Err refusal) = 0
 
 -- what a channel's own step came to, refused or done
 unfoldable pub settled_step : ℕ → State → Buffers → Bool → Channel → Buffers → Kind → Step

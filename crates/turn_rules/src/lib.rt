@@ -4,7 +4,7 @@
 use ground_rules::State;
 
 // What a step was; nothing where it was refused.
-#[derive(Clone, Copy)]
+#[derive(Clone, Copy, PartialEq, Eq)]
 pub enum Kind {
     Nothing,
     Instruction,
@@ -12,11 +12,10 @@ pub enum Kind {
     External,
 }
 
-// What a step answers: its number, 0 for done, how many bytes it read and stored, the state, and the number of the
-// channel and the kind of its step.
-#[derive(Clone, Copy)]
+// What a step that is done answers: how many bytes it read and stored, the state, and the number of the channel and the
+// kind of its step.
+#[derive(Clone, Copy, PartialEq, Eq)]
 pub struct Stepped {
-    pub number: u32,
     pub count: u32,
     pub state: State,
     pub channel: u32,
@@ -24,7 +23,7 @@ pub struct Stepped {
 }
 
 // Who steps: nobody, or the channel whose transfer an external line ends, or the one that has its turn; false is channel 1.
-#[derive(Clone, Copy)]
+#[derive(Clone, Copy, PartialEq, Eq)]
 pub enum Choice {
     Nobody,
     Ends(bool),

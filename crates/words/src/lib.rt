@@ -12,6 +12,13 @@ ghost use Rattle.ground_rules.specs.Signs.{signed_of, extended, displaced_by};
 ghost use Rattle.ground_rules.specs.Stored.{stored_low, stored_middle, stored_high, stored_address, stored_tag};
 ghost use Rattle.ground_rules.specs.Compare.{match_of};
 
+// One of two values, by a test.
+pub fn choose<T: Copy>(test: bool, a: T, b: T) -> T
+    ensures { result ≡ pick test a b }
+{
+    if test { a } else { b }
+}
+
 // The `width` bits of x from bit `at` upwards.
 pub fn field(x: u32, at: u32, width: u32) -> u32
     ensures { result ≡ field_of x at width }
@@ -26,6 +33,7 @@ pub fn field(x: u32, at: u32, width: u32) -> u32
 }
 
 // Whether bit `at` of x is 1.
+#[tactic(auto, unfolding(ground_rules::specs::Bits::field_of, ground_rules::specs::Bits::bit_of))]
 pub fn bit(x: u32, at: u32) -> bool
     ensures { result ≡ bit_of x at }
 {
@@ -95,7 +103,8 @@ pub fn count_down(count: u16, by: u16) -> u16
     std::num::wrapping_sub_u16(count, by)
 }
 
-// A byte, sign-extended to 20 bits: the two halves of the numbers change places, and 128 is taken off. The compiler knows
+// Bytes and words have functions of their own, here and below: one of a width would ask of its callers that the width is
+// small, and work out powers of two. A byte, sign-extended to 20 bits: the two halves of the numbers change places, and 128 is taken off. The compiler knows
 // this for one instruction.
 pub fn extend_byte(x: u8) -> u32
     ensures { result ≡ extended 8 x }
@@ -169,6 +178,7 @@ pub fn stored_tag(high: u8) -> bool
 }
 
 // The masked compare of a byte with MC.
+#[tactic(auto, unfolding(ground_rules::specs::Compare::match_of))]
 pub fn matches(byte: u8, mc: u16) -> bool
     ensures { result ≡ match_of byte mc }
 {

@@ -1,27 +1,54 @@
 -- `attention::attention` meets its contract.
 -- Assumes nothing.
-use borrow.Author.Rules.{rules}
-use mathlib.Core.Path.{◌≡◌, sym, ◌∙◌}
-use Rattle.ground_rules.specs.States.{channel_of, is_second, block_of}
+use mathlib.Core.Path.{sym, ◌∙◌}
+use Rattle.std.proofs.lemmas.Result.{err_from_is_err_and}
+use Rattle.ground_rules.proofs.RefusalLaws.{number-positive}
 use Rattle.ground_rules.specs.Buffers.{buffers}
-use Rattle.attention_rules.specs.Attention.{given_to}
-use Rattle.attention.specs.Plans.{planned_of}
-use Rattle.attention.proofs.PlanLaws.{given-settled, given-counts, planned-settled, planned-counts}
+use Rattle.attention.proofs.PlanLaws.{given-settled, given-counts, order-settled, order-counts, planned-settled, planned-counts}
 use Rattle.attention.proofs.attention.Goals as goal
 
-pub returns-then-given-ne0 : goal.returns-then-given-ne0
-returns-then-given-ne0 c =
+pub returns-in_err-check_given-clause-left : goal.returns-in_err-check_given-clause-left
+returns-in_err-check_given-clause-left c =
     let a = c.args in
-    let m = buffers a.sys.now a.io.now in
-    let given = c.given_number-given.ensures in
-    let refused : ¬ (given_to a.s m a.channel ≡ 0) = λ z. c.if-given-ne0.true (given ∙ z) in
-    record { left = rw given (given-settled a.s m a.channel refused); count = given-counts a.s m a.channel refused }
+    let p = err_from_is_err_and c.from_residual.result c.from_residual.ensures.1 in
+    let given = c.in_err-check_given.ensures in
+    rw (p.1, p.2, given) (given-settled a.s (buffers a.sys.now a.io.now) a.channel (λ z. number-positive _ (given ∙ z)))
 
-pub returns : goal.returns
-returns c =
+pub returns-in_err-check_given-clause-count : goal.returns-in_err-check_given-clause-count
+returns-in_err-check_given-clause-count c =
+    let a = c.args in
+    let p = err_from_is_err_and c.from_residual.result c.from_residual.ensures.1 in
+    let given = c.in_err-check_given.ensures in
+    rw p.1 (given-counts a.s (buffers a.sys.now a.io.now) a.channel (λ z. number-positive _ (given ∙ z)))
+
+pub returns-in_err-upshot-clause-left : goal.returns-in_err-upshot-clause-left
+returns-in_err-upshot-clause-left c =
     let a = c.args in
     let m = buffers a.sys.now a.io.now in
-    let e = c.planned-e.result in
-    let free : given_to a.s m a.channel ≡ 0 = sym c.given_number-given.ensures ∙ c.if-given-ne0.false in
-    let planned : e ≡ planned_of m (block_of a.s (is_second a.channel)) (channel_of a.s (is_second a.channel)) =
-    rw (← c.is_second-second.ensures, ← c.channel-c.ensures, ← c.block.ensures) c.planned-e.ensures in record { left = rw (c.with_channel-state.ensures, c.write.ensures, c.is_second-second.ensures) (planned-settled a.s m a.channel free e planned); count = planned-counts a.s m a.channel free e planned }
+    let p = err_from_is_err_and c.from_residual-in_err-upshot.result c.from_residual-in_err-upshot.ensures.1 in
+    let number = rw (c.block.ensures, c.channel.ensures, c.is_second-second.ensures) at c.in_err-upshot.ensures.number in
+    rw (p.1, p.2, number) (order-settled a.s m a.channel (sym c.in_ok-check_given.ensures) (λ z. number-positive _ (number ∙ z)))
+
+pub returns-in_err-upshot-clause-count : goal.returns-in_err-upshot-clause-count
+returns-in_err-upshot-clause-count c =
+    let a = c.args in
+    let m = buffers a.sys.now a.io.now in
+    let p = err_from_is_err_and c.from_residual-in_err-upshot.result c.from_residual-in_err-upshot.ensures.1 in
+    let number = rw (c.block.ensures, c.channel.ensures, c.is_second-second.ensures) at c.in_err-upshot.ensures.number in
+    rw p.1 (order-counts a.s m a.channel (sym c.in_ok-check_given.ensures) (λ z. number-positive _ (number ∙ z)))
+
+pub returns-clause-left : goal.returns-clause-left
+returns-clause-left c =
+    let a = c.args in
+    let m = buffers a.sys.now a.io.now in
+    let free = sym (rw (c.block.ensures, c.channel.ensures, c.is_second-second.ensures) at c.in_ok-upshot.ensures.number) in
+    let upshot = rw (c.block.ensures, c.channel.ensures, c.is_second-second.ensures) at c.in_ok-upshot.ensures.upshot in
+    rw (c.with_channel.ensures, c.write.ensures, c.is_second-second.ensures) (planned-settled a.s m a.channel (sym c.in_ok-check_given.ensures) free _ upshot)
+
+pub returns-clause-count : goal.returns-clause-count
+returns-clause-count c =
+    let a = c.args in
+    let m = buffers a.sys.now a.io.now in
+    let free = sym (rw (c.block.ensures, c.channel.ensures, c.is_second-second.ensures) at c.in_ok-upshot.ensures.number) in
+    let upshot = rw (c.block.ensures, c.channel.ensures, c.is_second-second.ensures) at c.in_ok-upshot.ensures.upshot in
+    planned-counts a.s m a.channel (sym c.in_ok-check_given.ensures) free _ upshot

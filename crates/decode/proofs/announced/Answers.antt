@@ -1,6 +1,5 @@
 -- `decode::announced` meets its contract: its digits are the rule's.
 -- Assumes nothing.
-use borrow.Author.Rules.{rules}
 use Rattle.decode.proofs.CellLaws.{announced-digit}
 use Rattle.decode.proofs.announced.Goals as goal
 

@@ -1,6 +1,5 @@
 -- `decode::decode` meets its contract: the cell of the opcode stands for the rows that its two bytes are held against.
 -- Assumes nothing.
-use borrow.Author.Rules.{rules}
 use mathlib.Core.Path.{sym, ◌∙◌}
 use Rattle.instruction_rules.specs.Reading.{decode_of}
 use Rattle.decode.proofs.CellLaws.{by-cell}

@@ -1,6 +1,5 @@
 -- `decode::look_up` meets its contract: one cell stands for the rows and gives the length.
 -- Assumes nothing.
-use borrow.Author.Rules.{rules}
 use mathlib.Core.Path.{sym, ◌∙◌}
 use Rattle.instruction_rules.specs.Pairs.{pair_of}
 use Rattle.instruction_rules.specs.Reading.{decode_of}

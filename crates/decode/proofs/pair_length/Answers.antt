@@ -1,6 +1,5 @@
 -- `decode::pair_length` meets its contract: the cell of the opcode gives the length.
 -- Assumes nothing.
-use borrow.Author.Rules.{rules}
 use mathlib.Core.Path.{sym, ◌∙◌}
 use Rattle.instruction_rules.specs.Pairs.{pair_of}
 use Rattle.decode.proofs.CellLaws.{two-bits, length-by-cell}

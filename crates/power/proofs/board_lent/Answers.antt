@@ -1,6 +1,5 @@
 -- `power::board_lent` meets its contract.
 -- Assumes nothing.
-use borrow.Author.Rules.{rules}
 use Rattle.attention_rules.proofs.PowerNumbers.{places_row}
 use Rattle.power.proofs.board_lent.Goals as goal
 

@@ -1,18 +1,19 @@
 -- `processor_calls::iop89_pair_schedule` meets its contract.
 -- Assumes nothing.
 use mathlib.Core.Path.{ap}
+use Rattle.std.proofs.Common.{arith}
 use Rattle.processor_calls.specs.Calls.{scheduled_as, pair_schedule}
 use Rattle.processor_calls.proofs.NamedLaws.{leaves-one, leaves-two, leaves_none}
 use Rattle.processor_calls.proofs.iop89_pair_schedule.Goals as goal
 
-pub returns-then-processor-eq1 : goal.returns-then-processor-eq1
+pub returns-in-1 : goal.returns-in-1
 unfolding pair_schedule
-returns-then-processor-eq1 c = leaves-one _ _ _ _ _ c.if-processor-eq1.true _ (ap scheduled_as c.iop89_schedule.ensures.0)
+returns-in-1 c = leaves-one _ _ _ _ _ c.in-1.is _ (ap scheduled_as c.iop89_schedule.ensures.0)
 
-pub returns-then-processor-eq2 : goal.returns-then-processor-eq2
+pub returns-in-2 : goal.returns-in-2
 unfolding pair_schedule
-returns-then-processor-eq2 c = leaves-two _ _ _ _ _ c.if-processor-eq2.true _ (ap scheduled_as c.iop89_schedule-then-processor-eq2.ensures.0)
+returns-in-2 c = leaves-two _ _ _ _ _ c.in-2.is _ (ap scheduled_as c.iop89_schedule-in-2.ensures.0)
 
-pub returns : goal.returns
+pub returns-in_default : goal.returns-in_default
 unfolding pair_schedule
-returns c = rw c.clear.ensures (leaves_none _ _ _ _ _ c.if-processor-eq1.false c.if-processor-eq2.false)
+returns-in_default c = rw (c.clear.ensures, c.number.ensures) (leaves_none _ _ _ _ _ (λ e. omega (arith, e)) (λ e. omega (arith, e)))

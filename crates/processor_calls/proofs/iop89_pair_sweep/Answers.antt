@@ -1,18 +1,15 @@
--- `processor_calls::iop89_pair_sweep` meets its contract.
+-- `processor_calls::iop89_pair_sweep` meets its contract: its closure is the single call.
 -- Assumes nothing.
-use mathlib.Core.Path.{ap}
-use Rattle.processor_calls.specs.Calls.{served_as, pair_sweep}
-use Rattle.processor_calls.proofs.NamedLaws.{leaves-one, leaves-two, leaves_none}
+use mathlib.Core.Path.{◌≡◌, ap}
+use Rattle.std.proofs.Common.{rules, of_calls}
+use Rattle.ground_rules.specs.Buffers.{buffers}
+use Rattle.state_rules.specs.Calls.{served, sweep_served}
+use Rattle.processor_calls.specs.Calls.{served_as, sweep_on_bytes, pair_sweep}
 use Rattle.processor_calls.proofs.iop89_pair_sweep.Goals as goal
-
-pub returns-then-processor-eq1 : goal.returns-then-processor-eq1
-unfolding pair_sweep
-returns-then-processor-eq1 c = leaves-one _ _ _ _ _ c.if-processor-eq1.true _ (ap served_as c.iop89_sweep.ensures.left)
-
-pub returns-then-processor-eq2 : goal.returns-then-processor-eq2
-unfolding pair_sweep
-returns-then-processor-eq2 c = leaves-two _ _ _ _ _ c.if-processor-eq2.true _ (ap served_as c.iop89_sweep-then-processor-eq2.ensures.left)
 
 pub returns : goal.returns
 unfolding pair_sweep
-returns c = leaves_none _ _ _ _ _ c.if-processor-eq1.false c.if-processor-eq2.false
+returns c =
+    rw (c.unwrap_or.ensures, c.number.ensures)
+    (c.on_named.ensures 12 (sweep_on_bytes c.args.channel c.args.lines) (λ x y r met.
+    let e : served r y.0.now (buffers y.1.0.now y.1.1.0.now) ≡ sweep_served x.0.now (buffers x.1.0.now x.1.1.0.now) c.args.channel c.args.lines = search (rules, of_calls) in ap served_as e))

@@ -3,11 +3,11 @@
 use Prim.Native.Nat.{ℕ}
 use lib.ListN.{length, replicate}
 use mathlib.Core.List.{List}
-use mathlib.Core.Path.{refl, ap, ap₂, ◌∙◌}
+use mathlib.Core.Path.{ap, ap₂, ◌∙◌}
 use Rattle.ground_rules.specs.declared.Made.{Made}
 use Rattle.ground_rules.specs.Buffers.{buffers}
 use Rattle.listing_rules.specs.Characters.{ascii}
-use Rattle.page.proofs.PageLaws.{reads}
+use Rattle.page.specs.Pages.{sheet, written}
 use Rattle.script_lines.specs.Lines.{answer_line}
 use Rattle.script_answers.specs.Machine.{machine, remade}
 use Rattle.script_answers.proofs.make.Goals as goal
@@ -18,6 +18,6 @@ returns c =
     let a = c.args in
     let f = c.fresh-fresh in
     let made =
-    ap₂ (λ (s i : List ℕ). machine f.result.state (buffers s i)) c.clear.ensures c.clear-2.ensures
+    ap₂ (λ (s i : List ℕ). machine f.result.state (buffers s i)) (c.fill.ensures.after (λ y h. h)) (c.fill-2.ensures.after (λ y h. h))
     ∙ ap (λ (x : Made). machine x.state (buffers (replicate (length a.sys.now) 0) (replicate (length a.io.now) 0))) f.ensures in
-    record { io_value = (made, refl); behind = reads (ap (λ (x : Made). answer_line (ascii "make ") x.number) f.ensures) c.answer_line.ensures }
+    record { io_value = made; same = c.answer_line.ensures.same; behind = c.answer_line.ensures.put ∙ ap (λ (x : Made). written (sheet a.page.now) (answer_line (ascii "make ") x.number)) f.ensures }

@@ -1,13 +1,9 @@
 -- `script_lines::answer_line` meets its contract.
 -- Assumes nothing.
-use Rattle.page.proofs.PageLaws.{then}
+use Rattle.page.proofs.PageLaws.{written_both}
 use Rattle.script_lines.specs.Lines.{answer_line}
 use Rattle.script_lines.proofs.answer_line.Goals as goal
 
-pub returns : goal.returns
+pub returns-clause-put : goal.returns-clause-put
 unfolding answer_line
-returns c =
-    let t1 = c.append-named.ensures in
-    let t2 = c.append_decimal-numbered.ensures in
-    let t3 = c.append.ensures in
-    then t1 (then t2 t3)
+returns-clause-put c = simp (c.append-2.ensures.put, c.append_decimal.ensures.put, c.append.ensures.put, ← written_both)

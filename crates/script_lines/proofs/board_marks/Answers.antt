@@ -1,14 +1,9 @@
 -- `script_lines::board_marks` meets its contract.
 -- Assumes nothing.
-use Rattle.page.proofs.PageLaws.{then, reads}
+use Rattle.page.proofs.PageLaws.{written_both}
 use Rattle.script_lines.specs.Lines.{board_text}
 use Rattle.script_lines.proofs.board_marks.Goals as goal
 
-pub returns : goal.returns
+pub returns-clause-put : goal.returns-clause-put
 unfolding board_text
-returns c =
-    let t1 = c.register-a.ensures in
-    let t2 = c.register-b.ensures in
-    let t3 = c.register-c.ensures in
-    let t4 = c.register.ensures in
-    reads (simp (c.mark_number.ensures, c.mark_number-2.ensures, c.mark_number-3.ensures, c.mark_number-4.ensures)) (then t1 (then t2 (then t3 t4)))
+returns-clause-put c = simp (c.mark-4.ensures.put, c.mark-3.ensures.put, c.mark-2.ensures.put, c.mark.ensures.put, ← written_both)

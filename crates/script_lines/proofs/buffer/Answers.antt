@@ -1,12 +1,9 @@
 -- `script_lines::buffer` meets its contract.
 -- Assumes nothing.
-use Rattle.page.proofs.PageLaws.{then, reads}
+use Rattle.page.proofs.PageLaws.{written_both}
 use Rattle.script_lines.specs.Lines.{buffer_text}
 use Rattle.script_lines.proofs.buffer.Goals as goal
 
-pub returns : goal.returns
+pub returns-clause-put : goal.returns-clause-put
 unfolding buffer_text
-returns c =
-    let t1 = c.register-sized.ensures in
-    let t2 = c.register.ensures in
-    reads (simp c.digest.ensures) (then t1 t2)
+returns-clause-put c = simp (c.digest.ensures, c.from.ensures, c.register-2.ensures.put, c.register.ensures.put, ← written_both)

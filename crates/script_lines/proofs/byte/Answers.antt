@@ -1,15 +1,14 @@
 -- `script_lines::byte` meets its contract.
 -- Assumes nothing.
-use borrow.Author.Tests.{lt-ltb, le-ltb}
-use lib.ListN.{length}
-use Rattle.page.proofs.PageLaws.{reads}
 use Rattle.script_lines.specs.Lines.{byte_text}
 use Rattle.script_lines.proofs.byte.Goals as goal
 
-pub returns-then-index-bytes : goal.returns-then-index-bytes
+pub returns-in-Some-clause-put : goal.returns-in-Some-clause-put
 unfolding byte_text
-returns-then-index-bytes c = reads (rw (lt-ltb c.args.index (length c.args.bytes.now) c.if-index-bytes.true)) c.register.ensures
+returns-in-Some-clause-put c =
+    let found = c.in-Some.ensures.lookup in
+    simp (c.register.ensures.put, c.from.ensures, ← found.0, found.3.1 0)
 
-pub returns : goal.returns
+pub returns-in-None-clause-put : goal.returns-in-None-clause-put
 unfolding byte_text
-returns c = reads (rw (le-ltb c.args.index (length c.args.bytes.now) c.if-index-bytes.false)) c.append.ensures
+returns-in-None-clause-put c = simp (c.append.ensures.put, ← c.in-None.ensures.lookup.0)

@@ -1,14 +1,9 @@
 -- `script_lines::marks` meets its contract.
 -- Assumes nothing.
-use Rattle.page.proofs.PageLaws.{then, reads}
+use Rattle.page.proofs.PageLaws.{written_both}
 use Rattle.script_lines.specs.Lines.{marks_text}
 use Rattle.script_lines.proofs.marks.Goals as goal
 
-pub returns : goal.returns
+pub returns-clause-put : goal.returns-clause-put
 unfolding marks_text
-returns c =
-    let t1 = c.register-moded.ensures in
-    let t2 = c.register-marked.ensures in
-    let t3 = c.register-holding.ensures in
-    let t4 = c.append.ensures in
-    reads (simp (c.number.ensures, c.mark_number.ensures, c.number_of_mode.ensures)) (then t1 (then t2 (then t3 t4)))
+returns-clause-put c = simp (c.append.ensures.put, c.number.ensures, c.from.ensures, c.register-2.ensures.put, c.mark.ensures.put, c.number_of_mode.ensures, c.register.ensures.put, ← written_both)

@@ -1,17 +1,9 @@
 -- `script_lines::numbers` meets its contract.
 -- Assumes nothing.
-use Rattle.page.proofs.PageLaws.{then}
+use Rattle.page.proofs.PageLaws.{written_both}
 use Rattle.script_lines.specs.Lines.{numbers_text}
 use Rattle.script_lines.proofs.numbers.Goals as goal
 
-pub returns : goal.returns
+pub returns-clause-put : goal.returns-clause-put
 unfolding numbers_text
-returns c =
-    let t1 = c.register-a.ensures in
-    let t2 = c.register-b.ensures in
-    let t3 = c.register-c.ensures in
-    let t4 = c.register-d.ensures in
-    let t5 = c.register-e.ensures in
-    let t6 = c.register-f.ensures in
-    let t7 = c.register.ensures in
-    then t1 (then t2 (then t3 (then t4 (then t5 (then t6 t7)))))
+returns-clause-put c = simp (c.from-7.ensures, c.register-7.ensures.put, c.from-6.ensures, c.register-6.ensures.put, c.joined.ensures, c.from-5.ensures, c.register-5.ensures.put, c.from-4.ensures, c.register-4.ensures.put, c.from-3.ensures, c.register-3.ensures.put, c.from-2.ensures, c.register-2.ensures.put, c.from.ensures, c.register.ensures.put, ← written_both)

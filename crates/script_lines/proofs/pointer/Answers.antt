@@ -1,12 +1,9 @@
 -- `script_lines::pointer` meets its contract.
 -- Assumes nothing.
-use Rattle.page.proofs.PageLaws.{then, reads}
+use Rattle.page.proofs.PageLaws.{written_both}
 use Rattle.script_lines.specs.Lines.{pointer_text}
 use Rattle.script_lines.proofs.pointer.Goals as goal
 
-pub returns : goal.returns
+pub returns-clause-put : goal.returns-clause-put
 unfolding pointer_text
-returns c =
-    let t1 = c.register-pointed.ensures in
-    let t2 = c.register.ensures in
-    reads (simp c.mark_number.ensures) (then t1 t2)
+returns-clause-put c = simp (c.mark.ensures.put, c.from.ensures, c.register.ensures.put, ← written_both)

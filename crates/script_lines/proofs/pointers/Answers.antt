@@ -1,14 +1,9 @@
 -- `script_lines::pointers` meets its contract.
 -- Assumes nothing.
-use Rattle.page.proofs.PageLaws.{then}
+use Rattle.page.proofs.PageLaws.{written_both}
 use Rattle.script_lines.specs.Lines.{pointers_text}
 use Rattle.script_lines.proofs.pointers.Goals as goal
 
-pub returns : goal.returns
+pub returns-clause-put : goal.returns-clause-put
 unfolding pointers_text
-returns c =
-    let t1 = c.pointer-a.ensures in
-    let t2 = c.pointer-b.ensures in
-    let t3 = c.pointer-c.ensures in
-    let t4 = c.pointer.ensures in
-    then t1 (then t2 (then t3 t4))
+returns-clause-put c = simp (c.pointer-4.ensures.put, c.pointer-3.ensures.put, c.pointer-2.ensures.put, c.pointer.ensures.put, ← written_both)

@@ -1,51 +1,40 @@
--- `script_lines::sixteen` meets its contract. The loop's invariant: the bytes from here, put behind what stands, are all of them put behind what stood.
+-- `script_lines::sixteen` meets its contract.
 -- Assumes nothing.
 use Prim.Native.Nat.{ℕ, ◌+◌, ◌-◌}
 use mathlib.Core.List.{◌++◌}
 use mathlib.Core.Path.{◌≡◌, refl, sym, ap, ap₂, ◌∙◌}
 use native.Mathlib.Omega.{arith}
-use Rattle.page.specs.Pages.{Page, page, written}
-use Rattle.page.proofs.PageLaws.{written_both, nothing-behind}
+use Rattle.page.specs.Pages.{PageBytes, sheet, written}
+use Rattle.page.proofs.PageLaws.{written_both, nothing_written}
 use Rattle.script_lines.specs.Lines.{byte_text, bytes_text}
 use Rattle.script_lines.proofs.LineLaws.{bytes_next, bytes-none}
 use Rattle.script_lines.proofs.sixteen.Goals as goal
 
-pub loop-i-init : goal.loop-i-init
-loop-i-init c =
+pub loop-offset-init : goal.loop-offset-init
+loop-offset-init c =
     let a = c.args in
     let e : a.from + 0 ≡ a.from = omega arith in
-    (omega arith, refl, ap (λ (n : ℕ). written (page a.out.now a.at) (bytes_text 16 a.bytes.now n)) e)
+    record { put = ap (λ (n : ℕ). written (sheet a.page.now) (bytes_text 16 a.bytes.now n)) e; same = refl }
 
-pub overflow_add-start : goal.overflow_add-start
-overflow_add-start c = omega arith
+pub loop-offset-preserved : goal.loop-offset-preserved
+loop-offset-preserved c =
+    let l = c.loop-offset in
+    let bytes = c.args.bytes.now in
+    let from = c.args.from in
+    let i = l.offset in
+    let rest = bytes_text (16 - (i + 1)) bytes (from + (i + 1)) in
+    let fewer : 16 - i - 1 ≡ 16 - (i + 1) = omega arith in
+    let on : from + i + 1 ≡ from + (i + 1) = omega arith in
+    let next = bytes_next (16 - i) bytes (from + i) (omega arith) ∙ ap₂ (λ (k n : ℕ). byte_text bytes (from + i) ++ bytes_text k bytes n) fewer on in record {
+      put = ap (λ (p : PageBytes). written p rest) c.byte.ensures.put
+          ∙ sym (written_both (sheet l.page) (byte_text bytes (from + i)) rest)
+          ∙ ap (written (sheet l.page)) (sym next)
+          ∙ l.invariant.put;
+      same = c.byte.ensures.same ∙ l.invariant.same;
+    }
 
-pub overflow_add-i : goal.overflow_add-i
-overflow_add-i c = omega arith
-
-pub loop-i-smaller : goal.loop-i-smaller
-loop-i-smaller c = omega (arith, c.loop-i-test.true)
-
-pub loop-i-preserved : goal.loop-i-preserved
-loop-i-preserved c =
-    let l = c.loop-i in
-    let a = c.args in
-    let bytes = a.bytes.now in
-    let here = page l.out l.to in
-    let rest = bytes_text (16 - (l.i + 1)) bytes (a.from + (l.i + 1)) in
-    let fewer : 16 - l.i - 1 ≡ 16 - (l.i + 1) = omega arith in
-    let on : a.from + l.i + 1 ≡ a.from + (l.i + 1) = omega arith in
-    let next = bytes_next (16 - l.i) bytes (a.from + l.i) (omega (arith, c.loop-i-test.true)) ∙ ap₂ (λ (k n : ℕ). byte_text bytes (a.from + l.i) ++ bytes_text k bytes n) fewer on in (
-      omega (arith, c.loop-i-test.true),
-      c.byte-to.auto.out ∙ l.invariant.1,
-      ap (λ (p : Page). written p rest) c.byte-to.ensures.is
-          ∙ sym (written_both here (byte_text bytes (a.from + l.i)) rest)
-          ∙ ap (written here) (sym next)
-          ∙ l.invariant.2,
-    )
-
-pub returns : goal.returns
-returns c =
-    let l = c.loop-i in
-    let a = c.args in
-    let none : 16 - l.i ≡ 0 = omega (arith, c.loop-i-test.false) in
-    record { is = (nothing-behind (page l.out l.to)).is ∙ ap (written (page l.out l.to)) (sym (bytes-none (16 - l.i) a.bytes.now (a.from + l.i) none)) ∙ l.invariant.2 }
+pub returns-clause-put : goal.returns-clause-put
+returns-clause-put c =
+    let l = c.loop-offset in
+    let none : 16 - l.offset ≡ 0 = omega arith in
+    sym (nothing_written (sheet l.page)) ∙ ap (written (sheet l.page)) (sym (bytes-none (16 - l.offset) c.args.bytes.now (c.args.from + l.offset) none)) ∙ l.invariant.put

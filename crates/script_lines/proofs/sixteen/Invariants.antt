@@ -1,13 +1,12 @@
-use Prim.Native.Nat.{◌+◌, ◌-◌, ◌≤◌}
-use lib.ListN.{length}
+-- The loop's invariant: the bytes from here, put behind what stands, are all of them put behind what stood, in the same buffer.
+use Prim.Native.Nat.{◌+◌, ◌-◌}
 use mathlib.Core.Path.{◌≡◌}
-use Rattle.page.specs.Pages.{page, written}
+use Rattle.page.specs.Pages.{sheet, written}
 use Rattle.script_lines.specs.Lines.{bytes_text}
 use Rattle.script_lines.proofs.sixteen.Given as goal
 
-abbrev pub invariant-loop-i : goal.invariant-loop-i
-invariant-loop-i l =
-    (l.i ≤ 16) × (length l.out ≡ length l.initial.out) × (written (page l.out l.to) (bytes_text (16 - l.i) l.bytes (l.from + l.i)) ≡ written (page l.initial.out l.at) (bytes_text 16 l.bytes l.from))
-
-abbrev pub decreases-loop-i : goal.decreases-loop-i
-decreases-loop-i l = 16 - l.i
+abbrev pub invariant-loop-offset : goal.invariant-loop-offset
+invariant-loop-offset l = record {
+  put : written (sheet l.page) (bytes_text (16 - l.offset) l.bytes (l.from + l.offset)) ≡ written (sheet l.initial.page) (bytes_text 16 l.bytes l.from);
+  same : l.page.bytes.ghost_name ≡ l.initial.page.bytes.ghost_name;
+}

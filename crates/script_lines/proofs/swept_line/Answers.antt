@@ -1,15 +1,9 @@
 -- `script_lines::swept_line` meets its contract.
 -- Assumes nothing.
-use Rattle.page.proofs.PageLaws.{then}
+use Rattle.page.proofs.PageLaws.{written_both}
 use Rattle.script_lines.specs.Lines.{swept_line}
 use Rattle.script_lines.proofs.swept_line.Goals as goal
 
-pub returns : goal.returns
+pub returns-clause-put : goal.returns-clause-put
 unfolding swept_line
-returns c =
-    let t1 = c.append-named.ensures in
-    let t2 = c.append_decimal-numbered.ensures in
-    let t3 = c.append-spaced.ensures in
-    let t4 = c.append_decimal-stepped.ensures in
-    let t5 = c.count_text.ensures in
-    then t1 (then t2 (then t3 (then t4 t5)))
+returns-clause-put c = simp (c.count_text.ensures.put, c.append_decimal-2.ensures.put, c.append-2.ensures.put, c.append_decimal.ensures.put, c.append.ensures.put, ← written_both)

@@ -6,7 +6,7 @@ use Rattle.service.proofs.iop89_fresh.Goals as goal
 pub returns-then-state-ne104 : goal.returns-then-state-ne104
 returns-then-state-ne104 c =
     let both = fresh-short c.args.state.now c.args.cp c.if-state-ne104.true in
-    record { left = both.0; whole = both.1 }
+    rw c.number.ensures (record { left = both.0; whole = both.1 })
 
 pub returns : goal.returns
 returns c =

@@ -16,7 +16,9 @@ use Rattle.state_rules.specs.Layout.{state_in}
 use Rattle.state_rules.proofs.CallLaws.{state-length, step-none}
 use Rattle.step.proofs.TurnLaws.{turn-steps}
 use Rattle.ground_rules.specs.Outcomes.{counted}
-use Rattle.service.proofs.TurnLaws.{entry-refused, chosen-step, refused-served, turn-served, turn-agrees, end-served}
+use Rattle.ground_rules.specs.Refusals.{answered}
+use Rattle.ground_rules.proofs.RefusalLaws.{number-positive}
+use Rattle.service.proofs.TurnLaws.{entry-refused, chosen-step, refused-served, turn-served, turn-fits, end-served}
 use Rattle.service.proofs.iop89_step.Goals as goal
 
 pub returns-then-not-is_state : goal.returns-then-not-is_state
@@ -24,23 +26,23 @@ returns-then-not-is_state c =
     let both =
     let a = c.args in
     step-none a.state.now (buffers a.sys.now a.io.now) a.lines (sym c.is_state.ensures ∙ c.if-not-is_state.true) in
-    record { left = both.0; whole = both.1 }
+    rw c.number.ensures (record { left = both.0; whole = both.1 })
 
 pub looked_at-s-requires : goal.looked_at-s-requires
 looked_at-s-requires c = state-length _ (sym c.is_state.ensures ∙ c.if-not-is_state.false)
 
-pub entry_number-number-requires : goal.entry_number-number-requires
-entry_number-number-requires c = (sym c.is_state.ensures ∙ c.if-not-is_state.false, c.looked_at-s.ensures)
+pub check_entry-requires : goal.check_entry-requires
+check_entry-requires c = (sym c.is_state.ensures ∙ c.if-not-is_state.false, c.looked_at-s.ensures)
 
-pub returns-then-number-ne0 : goal.returns-then-number-ne0
-returns-then-number-ne0 c =
+pub returns-in-Err : goal.returns-in-Err
+returns-in-Err c =
     let both =
     let a = c.args in
     let b = a.state.now in
     let m = buffers a.sys.now a.io.now in
-    let n = c.entry_number-number.ensures ∙ ap (λ (s : State). entry_number s m a.lines) c.looked_at-s.ensures in
-    refused-served b m (sym c.is_state.ensures ∙ c.if-not-is_state.false) a.lines (λ i. search rules) (entry_number (state_in b) m a.lines) (λ z. c.if-number-ne0.true (n ∙ z))
-    (entry-refused (state_in b) m a.lines (λ z. c.if-number-ne0.true (n ∙ z))) _ (c.answer.ensures ∙ ap (λ (k : ℕ). answer_from k 0 0 0) n) in
+    let n = c.in-Err.ensures ∙ ap (λ (s : State). entry_number s m a.lines) c.looked_at-s.ensures in
+    refused-served b m (sym c.is_state.ensures ∙ c.if-not-is_state.false) a.lines (λ i. search rules) (entry_number (state_in b) m a.lines) (λ z. number-positive _ (n ∙ z))
+    (entry-refused (state_in b) m a.lines (λ z. number-positive _ (n ∙ z))) _ (c.refused.ensures ∙ ap (λ (k : ℕ). answer_from k 0 0 0) n) in
     record { left = both.0; whole = both.1 }
 
 pub ended-requires : goal.ended-requires
@@ -50,24 +52,24 @@ pub stepping-requires : goal.stepping-requires
 stepping-requires c =
     let a = c.args in
     let m = buffers a.sys.now a.io.now in
-    let z = sym c.entry_number-number.ensures ∙ c.if-number-ne0.false in (
+    let z = sym c.in_default.ensures in (
       sym c.is_state.ensures ∙ c.if-not-is_state.false,
       entry-agree (state_in a.state.now) m a.lines (ap (λ (x : State). entry_number x m a.lines) (sym c.looked_at-s.ensures) ∙ z),
     )
 
-pub answered-requires : goal.answered-requires
+pub stepped-requires : goal.stepped-requires
 unfolding chosen_step
-answered-requires c =
+stepped-requires c =
     let a = c.args in
     let m = buffers a.sys.now a.io.now in
     let s = c.looked_at-s in
-    let t = c.channel_turn-t in
-    let z = sym c.entry_number-number.ensures ∙ c.if-number-ne0.false in
-    let w = turn-steps s.result _ s.ensures m _ _ c.stepping.ensures t.result _ t.ensures.left in (
+    let t = c.channel_turn-turn in
+    let z = sym c.in_default.ensures in
+    let w = turn-steps s.result _ s.ensures m _ _ c.stepping.ensures t.result _ t.ensures.left in
+    let agrees = turn-fits s.result m a.lines _ t.result _ z (sym c.choose.ensures ∙ c.in-Steps.is) w.0 in (
       sym c.is_state.ensures ∙ c.if-not-is_state.false,
       entry-agree (state_in a.state.now) m a.lines (ap (λ (x : State). entry_number x m a.lines) (sym s.ensures) ∙ z),
-      turn-agrees s.result m a.lines _ t.result _ z (sym c.choose.ensures ∙ c.in-Steps.is) w.0,
-      λ ne. t.ensures.count ∙ refused-counts _ _ ne,
+      agrees,
     )
 
 pub returns-in-Nobody : goal.returns-in-Nobody
@@ -78,10 +80,10 @@ returns-in-Nobody c =
     let b = a.state.now in
     let m = buffers a.sys.now a.io.now in
     let s = c.looked_at-s.ensures in
-    let z = sym (c.entry_number-number.ensures ∙ ap (λ (x : State). entry_number x m a.lines) s) ∙ c.if-number-ne0.false in
+    let z = sym (ap (λ (x : State). entry_number x m a.lines) s) ∙ sym c.in_default.ensures in
     let who = sym (c.choose.ensures ∙ ap (λ (x : State). choice_of x a.lines) s) ∙ c.in-Nobody.is in
     refused-served b m (sym c.is_state.ensures ∙ c.if-not-is_state.false) a.lines (λ i. search rules) 1 (eqb-false 1 0 refl)
-    (chosen-step (state_in b) m a.lines Nobody z who) _ c.answer-in-Nobody.ensures in
+    (chosen-step (state_in b) m a.lines Nobody z who) _ c.refused-in-Nobody.ensures in
     record { left = both.0; whole = both.1 }
 
 pub returns-in-Ends : goal.returns-in-Ends
@@ -91,7 +93,7 @@ returns-in-Ends c =
     let m = buffers a.sys.now a.io.now in
     let s = c.looked_at-s in
     end-served a.state.now m (sym c.is_state.ensures ∙ c.if-not-is_state.false) a.lines s.result s.ensures _
-    (sym c.entry_number-number.ensures ∙ c.if-number-ne0.false) (sym c.choose.ensures ∙ c.in-Ends.is) _ _ (c.ended.ensures.left m) (c.ended.ensures.whole m) in
+    (sym c.in_default.ensures) (sym c.choose.ensures ∙ c.in-Ends.is) _ _ (c.ended.ensures.left m) (c.ended.ensures.whole m) in
     record { left = both.0; whole = both.1 }
 
 pub returns-in-Steps : goal.returns-in-Steps
@@ -101,8 +103,8 @@ returns-in-Steps c =
     let a = c.args in
     let m = buffers a.sys.now a.io.now in
     let s = c.looked_at-s in
-    let t = c.channel_turn-t in
+    let t = c.channel_turn-turn in
     let w = turn-steps s.result _ s.ensures m _ _ c.stepping.ensures t.result _ t.ensures.left in
     turn-served a.state.now m (sym c.is_state.ensures ∙ c.if-not-is_state.false) a.lines s.result s.ensures _ _ t.result _
-    (sym c.entry_number-number.ensures ∙ c.if-number-ne0.false) (sym c.choose.ensures ∙ c.in-Steps.is) w.0 (t.ensures.count ∙ ap (counted t.result.number) w.1) _ _ (c.answered.ensures.left _) (c.answered.ensures.whole _) in
+    (sym c.in_default.ensures) (sym c.choose.ensures ∙ c.in-Steps.is) w.0 (t.ensures.count ∙ ap (counted (answered t.result)) w.1) _ _ (c.stepped.ensures.left _) (c.stepped.ensures.whole _) in
     record { left = both.0; whole = both.1 }

@@ -1,7 +1,9 @@
 -- `service::iop89_sweep` meets its contract: a refused sweep leaves the bytes, a done one puts its channel into them.
 -- Assumes nothing.
 use borrow.Author.Rules.{rules}
-use mathlib.Core.Path.{sym, ap, ◌∙◌}
+use mathlib.Core.Path.{refl, sym, ap, ◌∙◌}
+use Rattle.ground_rules.specs.Refusals.{number_of}
+use Rattle.ground_rules.proofs.RefusalLaws.{number-positive}
 use Rattle.ground_rules.specs.declared.State.{State}
 use Rattle.ground_rules.specs.Buffers.{buffers}
 use Rattle.sweep_rules.specs.Sweep.{sweep_of}
@@ -14,30 +16,29 @@ returns-then-not-is_state c =
     let both =
     let a = c.args in
     sweep-none a.state.now (buffers a.sys.now a.io.now) a.channel a.lines (sym c.is_state.ensures ∙ c.if-not-is_state.true) in
-    record { left = both.0; whole = both.1 }
+    rw c.number.ensures (record { left = both.0; whole = both.1 })
 
 pub state_in-requires : goal.state_in-requires
 state_in-requires c = state-length _ (sym c.is_state.ensures ∙ c.if-not-is_state.false)
 
-pub returns-then-a-ne0 : goal.returns-then-a-ne0
-returns-then-a-ne0 c =
+pub returns-in-Err : goal.returns-in-Err
+returns-in-Err c =
     let a = c.args in
     let m = buffers a.sys.now a.io.now in
-    let o = c.sweep-a in
-    let both = sweep-refused a.state.now m a.channel a.lines (sym c.is_state.ensures ∙ c.if-not-is_state.false) o.result _
-    (o.ensures ∙ ap (λ (s : State). sweep_of s m a.channel a.lines) c.state_in.ensures) (λ i. search rules) c.if-a-ne0.true in
-    rw c.sweep_answer.ensures (record { left = both.0; whole = both.1 })
+    let both = sweep-refused a.state.now m a.channel a.lines (sym c.is_state.ensures ∙ c.if-not-is_state.false) (number_of c.in-Err.refusal) _ 0 0 _
+    (c.in-Err.ensures ∙ ap (λ (s : State). sweep_of s m a.channel a.lines) c.state_in.ensures) (λ i. search rules) (number-positive c.in-Err.refusal) in
+    rw (c.sweep_answer-in-Err.ensures, c.number-in-Err.ensures) (record { left = both.0; whole = both.1 })
 
 pub put_step-requires : goal.put_step-requires
 put_step-requires c = sym c.is_state.ensures ∙ c.if-not-is_state.false
 
-pub returns : goal.returns
-returns c =
+pub returns-in-Ok : goal.returns-in-Ok
+returns-in-Ok c =
     let a = c.args in
     let m = buffers a.sys.now a.io.now in
-    let o = c.sweep-a in
+    let w = c.in-Ok.swept in
     let second = c.is_second-second.ensures in
     let channel = c.channel.ensures in
-    let both = sweep-done a.state.now m a.channel a.lines (sym c.is_state.ensures ∙ c.if-not-is_state.false) o.result _
-    (o.ensures ∙ ap (λ (s : State). sweep_of s m a.channel a.lines) c.state_in.ensures) c.if-a-ne0.false _ (c.put_step.ensures.put ∙ rw (channel, second)) (c.put_step.ensures.whole ∙ rw (channel, second)) in
-    rw c.sweep_answer-2.ensures (record { left = both.0; whole = both.1 })
+    let both = sweep-done a.state.now m a.channel a.lines (sym c.is_state.ensures ∙ c.if-not-is_state.false) 0 w.state w.steps w.count _
+    (c.in-Ok.ensures ∙ ap (λ (s : State). sweep_of s m a.channel a.lines) c.state_in.ensures) refl _ (c.put_step.ensures.put ∙ rw (channel, second)) (c.put_step.ensures.whole ∙ rw (channel, second)) in
+    rw c.sweep_answer.ensures (record { left = both.0; whole = both.1 })

@@ -3,6 +3,7 @@
 use Prim.Native.Nat.{ℕ}
 use mathlib.Core.Path.{sym, ap, ◌∙◌}
 use Rattle.instruction_rules.specs.Execute.{touched_by_instruction, Executed, execute_of, execute_count}
+use Rattle.std.proofs.lemmas.Result.{err_from_is_err_and}
 use Rattle.ground_rules.specs.Outcomes.{counted}
 use Rattle.ground_rules.specs.States.{block_of, busy_in}
 use Rattle.ground_rules.specs.Buffers.{buffers}
@@ -12,13 +13,45 @@ use Rattle.turn_rules.specs.declared.Kind.TheVariants.{Instruction, Transfer}
 use Rattle.step.specs.Turns.{turn_of, turn_touched}
 use Rattle.step.proofs.channel_turn.Goals as goal
 
+pub returns-in_err-moved : goal.returns-in_err-moved
+unfolding turn_of turn_touched transfer_count
+returns-in_err-moved c =
+    let a = c.args in
+    let m = buffers a.sys.now a.io.now in
+    let flag = sym c.transferring.ensures ∙ c.if-transferring.true in
+    let e = c.in_err-moved.ensures in
+    let p = err_from_is_err_and c.from_residual.result c.from_residual.ensures.1 in
+    rw (p.1, p.2) (record {
+      left = rw flag (ap (λ (x : Steps.Transfer). record { number = x.number; channel = x.channel; memory = x.memory; kind = Transfer }) e.left);
+      count = rw flag (e.count ∙ ap (λ (x : Steps.Transfer). counted x.number (touched_by_transfer a.c m)) (sym e.left));
+    })
+
 pub returns-then-transferring : goal.returns-then-transferring
 unfolding turn_of turn_touched transfer_count
 returns-then-transferring c =
     let a = c.args in
     let m = buffers a.sys.now a.io.now in
     let flag = sym c.transferring.ensures ∙ c.if-transferring.true in
-    let t = c.transfer-t in record { left = rw (c.holds-channel.ensures, flag) (ap (λ (x : Steps.Transfer). record { number = x.number; channel = x.channel; memory = x.memory; kind = Transfer }) t.ensures.left); count = rw flag (t.ensures.count ∙ ap (λ (x : Steps.Transfer). counted x.number (touched_by_transfer a.c m)) (sym t.ensures.left)) }
+    let e = c.in_ok-moved.ensures in
+    rw c.turned.ensures (record {
+      left = rw flag (ap (λ (x : Steps.Transfer). record { number = x.number; channel = x.channel; memory = x.memory; kind = Transfer }) e.left);
+      count = rw flag (e.count ∙ ap (λ (x : Steps.Transfer). counted x.number (touched_by_transfer a.c m)) (sym e.left));
+    })
+
+pub returns-in_err-executed : goal.returns-in_err-executed
+unfolding turn_of turn_touched execute_count
+returns-in_err-executed c =
+    let a = c.args in
+    let m = buffers a.sys.now a.io.now in
+    let flag = sym c.transferring.ensures ∙ c.if-transferring.false in
+    let at = c.busy-busy.ensures ∙ ap busy_in c.block.ensures in
+    let d = c.in_err-executed.ensures in
+    let e = d.left ∙ ap (λ (y : ℕ). execute_of a.c y m) at in
+    let p = err_from_is_err_and c.from_residual-in_err-executed.result c.from_residual-in_err-executed.ensures.1 in
+    rw (p.1, p.2) (record {
+      left = rw flag (ap (λ (x : Executed). record { number = x.number; channel = x.channel; memory = x.memory; kind = Instruction }) e);
+      count = rw flag (d.count ∙ ap (λ (y : ℕ). execute_count a.c y m) at ∙ ap (λ (x : Executed). counted x.number (touched_by_instruction m a.c (busy_in (block_of a.s a.second)))) (sym e));
+    })
 
 pub returns : goal.returns
 unfolding turn_of turn_touched execute_count
@@ -27,5 +60,9 @@ returns c =
     let m = buffers a.sys.now a.io.now in
     let flag = sym c.transferring.ensures ∙ c.if-transferring.false in
     let at = c.busy-busy.ensures ∙ ap busy_in c.block.ensures in
-    let d = c.execute-e in
-    let e = d.ensures.left ∙ ap (λ (y : ℕ). execute_of a.c y m) at in record { left = rw (c.holds-channel-2.ensures, flag) (ap (λ (x : Executed). record { number = x.number; channel = x.channel; memory = x.memory; kind = Instruction }) e); count = rw flag (d.ensures.count ∙ ap (λ (y : ℕ). execute_count a.c y m) at ∙ ap (λ (x : Executed). counted x.number (touched_by_instruction m a.c (busy_in (block_of a.s a.second)))) (sym e)) }
+    let d = c.in_ok-executed.ensures in
+    let e = d.left ∙ ap (λ (y : ℕ). execute_of a.c y m) at in
+    rw c.turned-2.ensures (record {
+      left = rw flag (ap (λ (x : Executed). record { number = x.number; channel = x.channel; memory = x.memory; kind = Instruction }) e);
+      count = rw flag (d.count ∙ ap (λ (y : ℕ). execute_count a.c y m) at ∙ ap (λ (x : Executed). counted x.number (touched_by_instruction m a.c (busy_in (block_of a.s a.second)))) (sym e));
+    })

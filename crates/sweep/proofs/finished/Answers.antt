@@ -7,4 +7,4 @@ use Rattle.sweep.proofs.finished.Goals as goal
 
 pub returns : goal.returns
 unfolding finished with_transfer onward
-returns c = simp (c.holds.ensures, c.with.ensures, c.onward-next-3.ensures, c.offset.ensures, c.onward-next-2.ensures, c.onward-next.ensures)
+returns c = simp (c.holds.ensures, c.with.ensures, c.onward-3.ensures, c.offset.ensures, c.onward-2.ensures, c.onward.ensures)

@@ -6,6 +6,3 @@ use Rattle.sweep.proofs.lay.Given as goal
 
 abbrev pub invariant-loop-i : goal.invariant-loop-i
 invariant-loop-i l = (l.i ≤ l.n) × (length l.target ≡ length l.initial.target) × (l.target ≡ laid l.source l.from l.initial.target l.into l.i)
-
-abbrev pub decreases-loop-i : goal.decreases-loop-i
-decreases-loop-i l = l.n - l.i

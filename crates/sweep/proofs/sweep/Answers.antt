@@ -2,6 +2,8 @@
 -- Assumes nothing.
 use Prim.Native.Nat.{ℕ}
 use mathlib.Core.Path.{◌≡◌, sym, ap, ◌∙◌}
+use Rattle.std.proofs.lemmas.Result.{err_from_is_err_and}
+use Rattle.ground_rules.proofs.RefusalLaws.{number-positive}
 use Rattle.ground_rules.specs.Buffers.{buffers}
 use Rattle.ground_rules.specs.States.{channel_of, is_second}
 use Rattle.sweep_rules.proofs.PassedLaws.{passed-limits, passed-ranges, accepted-sweep, refused-sweep}
@@ -9,18 +11,21 @@ use Rattle.sweep_rules.specs.Sweep.{refused_sweep, sweep_number, done_sweep}
 use Rattle.sweep.specs.Remainders.{remainder_of}
 use Rattle.sweep.proofs.sweep.Goals as goal
 
-pub returns-then-refusal-ne0 : goal.returns-then-refusal-ne0
-returns-then-refusal-ne0 c =
+pub returns-in_err-check_sweep : goal.returns-in_err-check_sweep
+returns-in_err-check_sweep c =
     let a = c.args in
     let m = buffers a.sys.now a.io.now in
-    ap (λ (k : ℕ). refused_sweep k a.s m) c.number-refusal.ensures
-    ∙ sym (refused-sweep a.s m a.channel a.lines (λ z. c.if-refusal-ne0.true (c.number-refusal.ensures ∙ z)))
+    let told = c.in_err-check_sweep.ensures in
+    let p = err_from_is_err_and c.from_residual.result c.from_residual.ensures.1 in
+    rw (p.1, p.2)
+    (ap (λ (k : ℕ). refused_sweep k a.s m) told
+    ∙ sym (refused-sweep a.s m a.channel a.lines (λ z. number-positive _ (told ∙ z))))
 
 pub copy-requires : goal.copy-requires
 copy-requires c =
     let a = c.args in
     let m = buffers a.sys.now a.io.now in
-    let z : sweep_number a.s m a.channel a.lines ≡ 0 = sym c.number-refusal.ensures ∙ c.if-refusal-ne0.false in
+    let z : sweep_number a.s m a.channel a.lines ≡ 0 = sym c.in_ok-check_sweep.ensures in
     let fit = passed-ranges a.s m a.channel a.lines z in
     let same : c.remainder_of-rest.result ≡ remainder_of (channel_of a.s (is_second a.channel)) =
     c.remainder_of-rest.ensures.0 ∙ ap remainder_of (c.channel-c.ensures ∙ ap (channel_of a.s) c.is_second-second.ensures) in
@@ -31,7 +36,7 @@ unfolding done_sweep
 returns c =
     let a = c.args in
     let m = buffers a.sys.now a.io.now in
-    let z : sweep_number a.s m a.channel a.lines ≡ 0 = sym c.number-refusal.ensures ∙ c.if-refusal-ne0.false in
+    let z : sweep_number a.s m a.channel a.lines ≡ 0 = sym c.in_ok-check_sweep.ensures in
     simp (
       c.with_last.ensures,
       c.with_channel.ensures,

@@ -11,7 +11,7 @@ use Rattle.touch_calls.proofs.iop89_touches_power_up.Goals as goal
 
 pub returns-then-state-ne104 : goal.returns-then-state-ne104
 unfolding touches_power_up
-returns-then-state-ne104 c = rw (ne_eqb _ _ c.if-state-ne104.true)
+returns-then-state-ne104 c = rw (c.number.ensures, ne_eqb _ _ c.if-state-ne104.true)
 
 pub returns : goal.returns
 unfolding touches_power_up told_as power_up_of

@@ -16,7 +16,9 @@ use Rattle.turn_rules.specs.Choosing.{choice_of}
 use Rattle.turn_rules.specs.Step.{entry_number, external_step, channel_step, chosen_step, step_of}
 use Rattle.turn_rules.specs.declared.Choice.TheVariants.{Nobody, Ends, Steps}
 use Rattle.turn_rules.specs.declared.Kind.TheVariants.{Nothing, External}
-use borrow.Author.Tests.{eq-eqb, ne_eqb, not-true, not-false}
+use borrow.Author.Tests.{not-true, not-false}
+use Rattle.ground_rules.proofs.RefusalLaws.{number-some}
+use Rattle.ground_rules.specs.Refusals.{number_of}
 use lib.Dec.{eqb}
 use mathlib.Core.Bool.{Bool, true}
 use mathlib.Core.List.{List}
@@ -39,24 +41,24 @@ module _ (s : State) (m : Buffers) (lines : ℕ) (room : List ℕ) (z : eqb (ent
 
 pub returns-then-not-is_state : goal.returns-then-not-is_state
 unfolding touches_step
-returns-then-not-is_state c = rw (sym c.is_state.ensures ∙ not-true _ c.if-not-is_state.true-raw)
+returns-then-not-is_state c = rw (c.number.ensures, sym c.is_state.ensures ∙ not-true _ c.if-not-is_state.true-raw)
 
 pub looked_at-s-requires : goal.looked_at-s-requires
 looked_at-s-requires c = state-length _ (sym c.is_state.ensures ∙ not-false _ c.if-not-is_state.false-raw)
 
-pub entry_number-number-requires : goal.entry_number-number-requires
-entry_number-number-requires c = (sym c.is_state.ensures ∙ not-false _ c.if-not-is_state.false-raw, c.looked_at-s.ensures)
+pub check_entry-requires : goal.check_entry-requires
+check_entry-requires c = (sym c.is_state.ensures ∙ not-false _ c.if-not-is_state.false-raw, c.looked_at-s.ensures)
 
-pub returns-then-number-ne0 : goal.returns-then-number-ne0
+pub returns-in-Err : goal.returns-in-Err
 unfolding touches_step told_as kind_number
-returns-then-number-ne0 c =
+returns-in-Err c =
     let a = c.args in
     let m = buffers a.sys.now a.io.now in
     let is : is_state a.state.now ≡ true = sym c.is_state.ensures ∙ not-false _ c.if-not-is_state.false-raw in
-    let number : c.entry_number-number.result ≡ entry_number (state_in a.state.now) m a.lines = simp c.looked_at-s.ensures at c.entry_number-number.ensures in
-    rw (c.answer.ensures, is, number)
+    let number : number_of c.in-Err.refusal ≡ entry_number (state_in a.state.now) m a.lines = simp c.looked_at-s.ensures at c.in-Err.ensures in
+    rw (c.answer.ensures, c.number-in-Err.ensures, is, number)
     (ap (λ (f : StepForeseen). telling (answer_from f.number f.channel (kind_number f.kind) f.count) f.words)
-    (step-refused (state_in a.state.now) m a.lines a.places.now (sym (ap (λ (n : ℕ). eqb n 0) number) ∙ ne_eqb _ _ c.if-number-ne0.true)))
+    (step-refused (state_in a.state.now) m a.lines a.places.now (sym (ap (λ (n : ℕ). eqb n 0) number) ∙ number-some _)))
 
 pub channel-requires : goal.channel-requires
 channel-requires c = state-length _ (sym c.is_state.ensures ∙ not-false _ c.if-not-is_state.false-raw)
@@ -68,9 +70,9 @@ returns-in-Nobody c =
     let m = buffers a.sys.now a.io.now in
     let is : is_state a.state.now ≡ true = sym c.is_state.ensures ∙ not-false _ c.if-not-is_state.false-raw in
     let s = c.looked_at-s.ensures in
-    let z : eqb (entry_number (state_in a.state.now) m a.lines) 0 ≡ true = sym (ap (λ (n : ℕ). eqb n 0) (simp s at c.entry_number-number.ensures)) ∙ eq-eqb _ _ c.if-number-ne0.false in
+    let z : eqb (entry_number (state_in a.state.now) m a.lines) 0 ≡ true = sym (ap (λ (n : ℕ). eqb n 0) (simp s at c.in_default.ensures)) in
     let choice = sym (c.choose.ensures ∙ ap (λ (x : State). choice_of x a.lines) s) in
-    rw (c.answer-in-Nobody.ensures, is)
+    rw (c.answer-in-Nobody.ensures, c.number-in-Nobody.ensures, is)
     (ap (λ (f : StepForeseen). telling (answer_from f.number f.channel (kind_number f.kind) f.count) f.words)
     (sym (nobody-told (state_in a.state.now) m a.lines a.places.now z (choice ∙ c.in-Nobody.is)) ∙ step-chosen (state_in a.state.now) m a.lines a.places.now z))
 
@@ -81,9 +83,9 @@ returns-in-Ends c =
     let m = buffers a.sys.now a.io.now in
     let is : is_state a.state.now ≡ true = sym c.is_state.ensures ∙ not-false _ c.if-not-is_state.false-raw in
     let s = c.looked_at-s.ensures in
-    let z : eqb (entry_number (state_in a.state.now) m a.lines) 0 ≡ true = sym (ap (λ (n : ℕ). eqb n 0) (simp s at c.entry_number-number.ensures)) ∙ eq-eqb _ _ c.if-number-ne0.false in
+    let z : eqb (entry_number (state_in a.state.now) m a.lines) 0 ≡ true = sym (ap (λ (n : ℕ). eqb n 0) (simp s at c.in_default.ensures)) in
     let choice = sym (c.choose.ensures ∙ ap (λ (x : State). choice_of x a.lines) s) in
-    rw (c.answer-in-Ends.ensures, c.number.ensures, is)
+    rw (c.answer-in-Ends.ensures, c.number-in-Ends.ensures, is)
     (ap (λ (f : StepForeseen). telling (answer_from f.number f.channel (kind_number f.kind) f.count) f.words)
     (sym (end-told (state_in a.state.now) m a.lines a.places.now z _ (choice ∙ c.in-Ends.is)) ∙ step-chosen (state_in a.state.now) m a.lines a.places.now z))
 
@@ -94,7 +96,7 @@ returns-in-Steps c =
     let m = buffers a.sys.now a.io.now in
     let is : is_state a.state.now ≡ true = sym c.is_state.ensures ∙ not-false _ c.if-not-is_state.false-raw in
     let s = c.looked_at-s.ensures in
-    let z : eqb (entry_number (state_in a.state.now) m a.lines) 0 ≡ true = sym (ap (λ (n : ℕ). eqb n 0) (simp s at c.entry_number-number.ensures)) ∙ eq-eqb _ _ c.if-number-ne0.false in
+    let z : eqb (entry_number (state_in a.state.now) m a.lines) 0 ≡ true = sym (ap (λ (n : ℕ). eqb n 0) (simp s at c.in_default.ensures)) in
     let choice = sym (c.choose.ensures ∙ ap (λ (x : State). choice_of x a.lines) s) in
     rw (c.whole.ensures, is)
     (ap (λ (f : StepForeseen). telling (answer_from f.number f.channel (kind_number f.kind) f.count) f.words)

@@ -13,7 +13,7 @@ use Rattle.touch_calls.proofs.iop89_touches_sweep.Goals as goal
 
 pub returns-then-not-is_state : goal.returns-then-not-is_state
 unfolding touches_sweep
-returns-then-not-is_state c = rw (sym c.is_state.ensures ∙ not-true _ c.if-not-is_state.true-raw)
+returns-then-not-is_state c = rw (c.number.ensures, sym c.is_state.ensures ∙ not-true _ c.if-not-is_state.true-raw)
 
 pub state_in-s-requires : goal.state_in-s-requires
 state_in-s-requires c = state-length _ (sym c.is_state.ensures ∙ not-false _ c.if-not-is_state.false-raw)

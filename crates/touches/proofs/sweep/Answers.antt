@@ -4,29 +4,28 @@ use Prim.Native.Nat.{ℕ}
 use Rattle.ground_rules.specs.Buffers.{buffers}
 use Rattle.touches.proofs.CallLaws.{sweep-refused, sweep-told}
 use Rattle.touches.proofs.TaleLaws.{two-plain-told}
-use Rattle.touch_rules.specs.Touches.{pointed_place}
-use Rattle.touches.specs.Tales.{Tale, foreseen_at, told_next}
+use Rattle.std.proofs.Common.{rules}
+use Rattle.sweep_rules.specs.Sweep.{sweep_number}
+use Rattle.touch_rules.specs.Touches.{pointed_place, told_by_sweep}
+use Rattle.touches.specs.Tales.{Tale, tale, untold, foreseen, foreseen_at, foretold, told_next}
 use Rattle.touches.specs.Tales.{plain_told}
-use borrow.Author.Tests.{ne_eqb}
+use Rattle.ground_rules.proofs.RefusalLaws.{number-some}
 use lib.Dec.{eqb}
-use mathlib.Core.Bool.{true}
-use mathlib.Core.Path.{sym, ap, ◌∙◌}
+use mathlib.Core.Bool.{true, false}
+use mathlib.Core.Path.{◌≡◌, sym, ap, ◌∙◌}
 use native.Mathlib.Omega.{arith}
 use Rattle.touches.proofs.sweep.Goals as goal
 
-pub returns-then-number-ne0 : goal.returns-then-number-ne0
-returns-then-number-ne0 c =
+pub returns-in-Err : goal.returns-in-Err
+returns-in-Err c =
     let a = c.args in
     let m = buffers a.sys.now a.io.now in
-    rw (c.seen.ensures, c.none.ensures, c.number-number.ensures)
-    (sweep-refused a.s m a.channel a.lines a.places.now (sym (ap (λ (n : ℕ). eqb n 0) c.number-number.ensures) ∙ ne_eqb _ _ c.if-number-ne0.true))
+    rw (c.number.ensures, c.in-Err.ensures)
+    (sweep-refused a.s m a.channel a.lines a.places.now (sym (ap (λ (n : ℕ). eqb n 0) c.in-Err.ensures) ∙ number-some _))
 
-pub one-read-requires : goal.one-read-requires
-one-read-requires c = rw c.none-2.ensures (omega arith)
-
-pub one-requires : goal.one-requires
+pub one-requires-2 : goal.one-requires-2
 unfolding told_next
-one-requires c = omega (arith, ap (λ (y : Tale). y.count) (rw c.none-2.ensures at c.one-read.ensures))
+one-requires-2 c = omega (arith, ap (λ (y : Tale). y.count) c.one.ensures.told, ap (λ (y : Tale). y.count) c.new-teller.ensures.told)
 
 pub returns : goal.returns
 returns c =
@@ -34,8 +33,11 @@ returns c =
     let m = buffers a.sys.now a.io.now in
     let room = a.places.now in
     let rest = simp (c.channel-c.ensures, c.is_second.ensures) at c.remainder_of-rest.ensures.0 in
-    let first = simp c.none-2.ensures at c.one-read.ensures in
-    rw c.seen-2.ensures
-    (ap (foreseen_at 0) (c.one.ensures ∙ ap (told_next true (plain_told true (pointed_place c.remainder_of-rest.result.into))) first)
-    ∙ two-plain-told (pointed_place c.remainder_of-rest.result.from) (pointed_place c.remainder_of-rest.result.into) room
-    ∙ rw rest (sweep-told a.s m a.channel a.lines room (sym c.number-number.ensures ∙ c.if-number-ne0.false)))
+    let from = pointed_place c.remainder_of-rest.result.from in
+    let into = pointed_place c.remainder_of-rest.result.into in
+    let told : tale c.one-2.new.self ≡ told_next true (plain_told true into) (told_next true (plain_told false from) (untold room))
+    = c.one-2.ensures.told ∙ ap (told_next true (plain_told true into)) (c.one.ensures.told ∙ ap (told_next true (plain_told false from)) c.new-teller.ensures.told) in
+    let whole : foreseen c.seen.result c.one-2.new.self.places.now ≡ foretold (sweep_number a.s m a.channel a.lines) (told_by_sweep a.s m a.channel a.lines) room
+    = rw c.seen.ensures
+    (ap (foreseen_at 0) told ∙ two-plain-told from into room ∙ rw rest (sweep-told a.s m a.channel a.lines room (sym c.in_default.ensures))) in
+    search rules

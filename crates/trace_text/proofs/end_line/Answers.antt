@@ -1,15 +1,10 @@
 -- `trace_text::end_line` meets its contract.
 -- Assumes nothing.
+use Rattle.page.proofs.PageLaws.{written_both}
 use Rattle.trace_text.specs.Line.{end_line}
-use Rattle.page.proofs.PageLaws.{then}
 use Rattle.trace_text.proofs.end_line.Goals as goal
 
-pub returns : goal.returns
+pub returns-clause-behind : goal.returns-clause-behind
 unfolding end_line
-returns c =
-    let feed = c.append in
-    let steps = c.append_decimal-counted in
-    let space = c.append-spaced in
-    let number = c.append_decimal-numbered in
-    let name = c.append-named in
-    then name.ensures (then number.ensures (then space.ensures (then steps.ensures feed.ensures)))
+returns-clause-behind c =
+    simp (c.append-3.ensures.put, c.append_decimal-2.ensures.put, c.append-2.ensures.put, c.append_decimal.ensures.put, c.append.ensures.put, c.number.ensures, ← written_both)

@@ -1,7 +1,7 @@
 -- `words::displaced` meets its contract: the signed sum is never below zero, since the pointer was raised by a multiple of 2 ^ 20 that no displacement undoes.
 -- Assumes nothing.
-use Rattle.std.proofs.Common.{◌≡◌, ℕ, suc, ◌+◌, ◌-◌, ◌%◌, ◌^◌, ◌<◌, T, ℤ, pos, negsuc, ◌+ℤ◌, nat_abs, refl, ap, ◌∙◌, mod-lt, mod-eq_of_lt, arith, lit<, to_z-of_z, w32, w64, Fits, SFits, to_z, of_z, rules, le-ltb}
-use lib.Signed.{mag, non_neg}
+use Rattle.std.proofs.Common.{◌≡◌, ℕ, suc, ◌+◌, ◌-◌, ◌%◌, ◌^◌, ◌<◌, ℤ, pos, negsuc, ◌+ℤ◌, nat_abs, refl, ap, ◌∙◌, mod-lt, arith, lit<, to_z-of_z, w32, w64, SFits, to_z, of_z, le-ltb}
+use lib.Signed.{mag}
 use mir.Facts.{to_z_pos, sfits_widen}
 use Rattle.ground_rules.specs.Signs.{displaced_by}
 use Rattle.words.proofs.displaced.Goals as goal
@@ -50,25 +50,6 @@ module _ (p : ℕ) (z : ℤ) (hp : p < 1048576) (hz : SFits w32 z) where
 
 within : (n : ℕ) → n % 1048576 < 1048576
 within n = mod-lt n (lit< tt)
-
-pub overflow_add-from : goal.overflow_add-from
-overflow_add-from c =
-    let small : c.args.pointer % 1048576 < 2 ^ 63 = omega arith in
-    rw (to_z_pos w64 small) (record { sfits = omega arith })
-
-pub overflow_cast-result : goal.overflow_cast-result
-overflow_cast-result c = rw (to_z-of_z c.ranges.by) (sfits_widen tt c.ranges.by)
-
-pub overflow_add-result : goal.overflow_add-result
-overflow_add-result c =
-    let p = c.args.pointer % 1048576 in
-    rw (summed p c.args.by (within _) c.ranges.by) (record { sfits = below p c.args.by (within _) c.ranges.by })
-
-pub overflow_cast-result-2 : goal.overflow_cast-result-2
-overflow_cast-result-2 c =
-    let p = c.args.pointer % 1048576 in
-    let low = below p c.args.by (within _) c.ranges.by in
-    rw (whole p c.args.by (within _) c.ranges.by) (tt, record { fits = omega arith })
 
 pub returns : goal.returns
 returns c =

@@ -1,11 +1,8 @@
 -- `words::displacement_byte` meets its contract, by the laws of a signed number at 8 bits.
 -- Assumes nothing.
-use Rattle.std.proofs.Common.{◌+◌, ◌%◌, refl, arith, rules}
-use Rattle.ground_rules.proofs.SignLaws.{less-fits, halves-less}
+use Rattle.std.proofs.Common.{◌+◌, ◌%◌, refl, arith}
+use Rattle.ground_rules.proofs.SignLaws.{halves-less}
 use Rattle.words.proofs.displacement_byte.Goals as goal
-
-pub overflow_sub-result : goal.overflow_sub-result
-overflow_sub-result c = less-fits ((c.args.x + 128) % 256) 127 (omega arith) (omega arith)
 
 pub returns : goal.returns
 returns c = halves-less 8 c.args.x ((c.args.x + 128) % 256) 127 refl refl (omega arith) (omega arith) (omega arith) (λ low. omega (arith, low)) (λ high. omega (arith, high))

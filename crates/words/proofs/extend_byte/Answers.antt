@@ -1,6 +1,6 @@
 -- `words::extend_byte` meets its contract, by the law of an extended number at 8 bits.
 -- Assumes nothing.
-use Rattle.std.proofs.Common.{◌+◌, ◌%◌, refl, arith, rules}
+use Rattle.std.proofs.Common.{◌+◌, ◌%◌, refl, arith}
 use Rattle.ground_rules.proofs.SignLaws.{halves-extended}
 use Rattle.words.proofs.extend_byte.Goals as goal
 

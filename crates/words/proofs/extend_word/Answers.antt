@@ -1,6 +1,6 @@
 -- `words::extend_word` meets its contract, by the law of an extended number at 16 bits.
 -- Assumes nothing.
-use Rattle.std.proofs.Common.{◌+◌, ◌%◌, refl, arith, rules}
+use Rattle.std.proofs.Common.{◌+◌, ◌%◌, refl, arith}
 use Rattle.ground_rules.proofs.SignLaws.{halves-extended}
 use Rattle.words.proofs.extend_word.Goals as goal
 

@@ -1,6 +1,6 @@
 -- `words::field` meets its contract, by the laws of a field over position and width.
 -- Assumes nothing.
-use Rattle.std.proofs.Common.{ℕ, ◌-◌, ◌/◌, ◌^◌, sym, ap, ◌∙◌, arith, pow_pos, rules}
+use Rattle.std.proofs.Common.{ℕ, ◌-◌, ◌/◌, ◌^◌, sym, ap, ◌∙◌, arith}
 use lib.Bits.{bit_and}
 use Rattle.ground_rules.proofs.BitLaws.{one_shifted, field_past, field-wide, field-masked}
 use Rattle.words.proofs.field.Goals as goal
@@ -10,11 +10,6 @@ returns-then-at-ge32 c = let a = c.args in sym (field_past 32 a.x a.at a.width (
 
 pub returns-then-width-ge32 : goal.returns-then-width-ge32
 returns-then-width-ge32 c = let a = c.args in sym (field-wide 32 a.x a.at a.width (omega arith) c.if-width-ge32.true)
-
-pub overflow_sub-result : goal.overflow_sub-result
-overflow_sub-result c =
-    let a = c.args in
-    omega (arith, one_shifted 32 a.width c.if-width-ge32.false, pow_pos a.width)
 
 pub returns : goal.returns
 returns c =

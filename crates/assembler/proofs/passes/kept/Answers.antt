@@ -2,39 +2,44 @@
 -- Assumes nothing.
 use Prim.Native.Nat.{◌<◌}
 use native.Mathlib.Omega.{arith}
-use borrow.Author.Tests.{not-true, not-false}
-use mathlib.Core.Path.{sym, ap, ◌∙◌}
-use lib.ListN.{length-take, length-set}
+use mathlib.Core.Path.{sym, ap, subst, ◌∙◌}
+use Rattle.std.specs.Prelude.{Option, IfSome}
 use Rattle.assembly_rules.specs.Assembly.{kept_with}
 use Rattle.assembly_rules.proofs.LabelLaws.{may-parts}
-use Rattle.assembler.proofs.WalkLaws.{labels-kept, labels-count, no_name, kept_same, kept_more}
+use Rattle.assembler_lines.specs.declared.bodies.NameSpan.{NameSpan}
+use Rattle.assembler_lines.specs.Bodies.{SpanIs, span_name}
+use Rattle.assembler.specs.Passes.{labels_in}
+use Rattle.assembler.proofs.WalkLaws.{labels-kept, labels-count, kept_same, kept_more}
 use Rattle.assembler.proofs.passes.kept.Goals as goal
 
-pub returns-then-not-h : goal.returns-then-not-h
+pub returns-in_default-clause-result_after : goal.returns-in_default-clause-result_after
 unfolding kept_with
-returns-then-not-h c = record { upper_bound = c.requires.1.1.0; places_len = (c.requires.0, c.requires.1.0); result_after = sym (ap (kept_with _ c.args.address) (no_name c.args.text.now c.args.h (not-true _ c.if-not-h.true))) }
+returns-in_default-clause-result_after c = let a = c.args in sym (ap (λ (l : Option NameSpan). kept_with (labels_in a.text.now a.places.now a.addresses.now a.count) a.address (span_name a.text.now l)) c.in_default.is)
 
-pub slice_bounds-may_keep-end-2 : goal.slice_bounds-may_keep-end-2
-slice_bounds-may_keep-end-2 c = simp length-take (omega arith)
-
-pub slice_bounds-may_keep-end-4 : goal.slice_bounds-may_keep-end-4
-slice_bounds-may_keep-end-4 c = simp length-take (omega arith)
-
-pub may_keep-requires : goal.may_keep-requires
-may_keep-requires c = let l = not-false _ c.if-not-h.false in (c.requires.1.1.1.some l, (c.requires.1.1.1.inside l, simp length-take (omega arith)))
-
-pub returns-then-not-may_keep : goal.returns-then-not-may_keep
-returns-then-not-may_keep c = record { upper_bound = c.requires.1.1.0; places_len = (c.requires.0, c.requires.1.0); result_after = kept_same c.args.text.now c.args.h c.requires.1.1.1 (not-false _ c.if-not-h.false) _ c.args.address (sym c.may_keep.ensures ∙ not-true _ c.if-not-may_keep.true-raw) }
+pub returns-then-not-may_keep-clause-result_after : goal.returns-then-not-may_keep-clause-result_after
+returns-then-not-may_keep-clause-result_after c =
+    let a = c.args in
+    let fits = subst (λ (l : Option NameSpan). IfSome l (SpanIs a.text.now)) c.in-Some.is c.requires.1.1.1 in
+    kept_same a.text.now _ fits (labels_in a.text.now a.places.now a.addresses.now a.count) a.address (sym c.may_keep.ensures ∙ c.if-not-may_keep.true)
+    ∙ ap (λ (l : Option NameSpan). kept_with (labels_in a.text.now a.places.now a.addresses.now a.count) a.address (span_name a.text.now l)) (sym c.in-Some.is)
 
 pub bounds-places-count : goal.bounds-places-count
-bounds-places-count c = omega (arith, (may-parts _ _ (sym c.may_keep.ensures ∙ not-false _ c.if-not-may_keep.false-raw)).1.1.1, labels-count c.args.text.now c.args.places.now c.args.addresses.now c.args.count (c.requires.0 ∙ sym c.requires.1.0) (omega arith), c.requires.0)
+bounds-places-count c = omega (arith, (may-parts _ _ (sym c.may_keep.ensures ∙ c.if-not-may_keep.false)).1.1.1, labels-count c.args.text.now c.args.places.now c.args.addresses.now c.args.count (c.requires.0 ∙ sym c.requires.1.0) (omega arith), c.requires.0)
 
 pub bounds-addresses-count : goal.bounds-addresses-count
 bounds-addresses-count c =
-    let l : c.args.count < 64 = omega (arith, (may-parts _ _ (sym c.may_keep.ensures ∙ not-false _ c.if-not-may_keep.false-raw)).1.1.1, labels-count c.args.text.now c.args.places.now c.args.addresses.now c.args.count (c.requires.0 ∙ sym c.requires.1.0) (omega arith), c.requires.0) in
+    let l : c.args.count < 64 = omega (arith, (may-parts _ _ (sym c.may_keep.ensures ∙ c.if-not-may_keep.false)).1.1.1, labels-count c.args.text.now c.args.places.now c.args.addresses.now c.args.count (c.requires.0 ∙ sym c.requires.1.0) (omega arith), c.requires.0) in
     omega (arith, l, c.requires)
 
-pub returns : goal.returns
-returns c =
-    let l : c.args.count < 64 = omega (arith, (may-parts _ _ (sym c.may_keep.ensures ∙ not-false _ c.if-not-may_keep.false-raw)).1.1.1, labels-count c.args.text.now c.args.places.now c.args.addresses.now c.args.count (c.requires.0 ∙ sym c.requires.1.0) (omega arith), c.requires.0) in
-    record { upper_bound = omega (arith, l, c.requires.0); places_len = (simp length-set c.requires.0, simp length-set c.requires.1.0); result_after = labels-kept c.args.text.now c.args.places.now c.args.addresses.now c.args.count c.args.h.from c.args.address c.requires.0 c.requires.1.0 (omega (arith, l, c.requires.0)) ∙ kept_more c.args.text.now c.args.h c.requires.1.1.1 (not-false _ c.if-not-h.false) _ c.args.address (sym c.may_keep.ensures ∙ not-false _ c.if-not-may_keep.false-raw) }
+pub returns-clause-upper_bound : goal.returns-clause-upper_bound
+returns-clause-upper_bound c =
+    let l : c.args.count < 64 = omega (arith, (may-parts _ _ (sym c.may_keep.ensures ∙ c.if-not-may_keep.false)).1.1.1, labels-count c.args.text.now c.args.places.now c.args.addresses.now c.args.count (c.requires.0 ∙ sym c.requires.1.0) (omega arith), c.requires.0) in
+    omega (arith, l)
+
+pub returns-clause-result_after : goal.returns-clause-result_after
+returns-clause-result_after c =
+    let a = c.args in
+    let l : a.count < 64 = omega (arith, (may-parts _ _ (sym c.may_keep.ensures ∙ c.if-not-may_keep.false)).1.1.1, labels-count a.text.now a.places.now a.addresses.now a.count (c.requires.0 ∙ sym c.requires.1.0) (omega arith), c.requires.0) in
+    let fits = subst (λ (l : Option NameSpan). IfSome l (SpanIs a.text.now)) c.in-Some.is c.requires.1.1.1 in
+    labels-kept a.text.now a.places.now a.addresses.now a.count c.in-Some.name.from a.address c.requires.0 c.requires.1.0 l ∙ kept_more a.text.now _ fits (labels_in a.text.now a.places.now a.addresses.now a.count) a.address (sym c.may_keep.ensures ∙ c.if-not-may_keep.false)
+    ∙ ap (λ (l : Option NameSpan). kept_with (labels_in a.text.now a.places.now a.addresses.now a.count) a.address (span_name a.text.now l)) (sym c.in-Some.is)

@@ -1,55 +1,51 @@
 -- `assembler::passes::store` meets its contract. The loop's invariant: the bytes of the lines so far stand in the buffer, and those of the others follow.
 -- Assumes nothing.
 use native.Mathlib.Omega.{arith}
-use mathlib.Core.Path.{refl}
+use mathlib.Core.Path.{subst}
+use Prim.Native.Nat.{ℕ}
+use Rattle.std.specs.Prelude.{Option}
 use Rattle.assembly_rules.proofs.PassLaws.{bytes_from}
-use Rattle.assembler_text.specs.Places.{labels_at}
-use Rattle.assembler.specs.Passes.{said_from}
-use Rattle.assembler.proofs.WalkLaws.{said-last, said-next, end-behind, here-inside, line-stored, line-room, laid-all}
+use Rattle.assembler_text.specs.Places.{labels_of}
+use Rattle.assembler.specs.Passes.{said_from, said_to}
+use Rattle.assembler.proofs.WalkLaws.{LaidOn, line-stored, line-room, laid-all}
 use Rattle.assembler.proofs.passes.store.Goals as goal
-
-pub loop-first-init : goal.loop-first-init
-loop-first-init c = (omega arith, record { split = refl; inside = omega arith; now = refl })
-
-pub slice_bounds-put-count : goal.slice_bounds-put-count
-slice_bounds-put-count c = (here-inside _ c.args.code.now c.loop-first.code _ c.loop-first.bytes c.requires.0 c.loop-first.invariant.1).0
-
-pub slice_bounds-put-start : goal.slice_bounds-put-start
-slice_bounds-put-start c = (here-inside _ c.args.code.now c.loop-first.code _ c.loop-first.bytes c.requires.0 c.loop-first.invariant.1).0
-
-pub slice_bounds-put-end : goal.slice_bounds-put-end
-slice_bounds-put-end c = omega arith
 
 pub overflow_add-bytes : goal.overflow_add-bytes
 overflow_add-bytes c =
-    let l = c.loop-first in
-    let text = c.args.text.now in
-    let h = c.head-h in
-    let labels = labels_at text c.args.places.now c.args.addresses.now in
-    let sized = c.size-bytes.ensures text _ c.body-b.ensures in
-    omega (arith, line-room text l.at h.result h.ensures labels c.args.first l.bytes (bytes_from labels c.args.first 0 (said_from text 0)) c.args.code.now l.code c.requires.0 c.requires.1 l.invariant.1 _ sized, c.requires.0)
+    let a = c.args in
+    let l = c.loop-place in
+    let text = a.text.now in
+    let labels = labels_of text a.labels.now in
+    let whole = bytes_from labels a.first 0 (said_from text 0) in
+    let on = subst (λ (p : Option ℕ). LaidOn whole a.code.now l.code (bytes_from labels a.first l.bytes (said_to text p)) l.bytes) c.in-Some.is l.invariant in
+    omega (arith, line-room text c.in-Some.at _ c.line_at-line.ensures labels a.first l.bytes whole a.code.now l.code c.requires.0 c.requires.1 on, c.requires.0)
 
-pub returns-then-text-end : goal.returns-then-text-end
-returns-then-text-end c =
-    let both =
-    let l = c.loop-first in
-    let text = c.args.text.now in
-    let h = c.head-h in
-    let labels = labels_at text c.args.places.now c.args.addresses.now in
-    let sized = c.size-bytes.ensures text _ c.body-b.ensures in
-    let on = line-stored text l.at h.result h.ensures labels c.args.first l.bytes (bytes_from labels c.args.first 0 (said_from text 0)) c.args.code.now l.code c.requires.0 c.requires.1 l.invariant.1 _ sized _ _ _ (said-last text l.at _ c.line_stop-end.ensures c.if-text-end.true) c.behind.ensures (c.put.ensures _ c.body-b.ensures) in
-    laid-all labels c.args.first _ _ c.args.code.now _ _ on in
-    record { value = both.0; code_after = both.1 }
+pub loop-place-preserved : goal.loop-place-preserved
+loop-place-preserved c =
+    let a = c.args in
+    let l = c.loop-place in
+    let text = a.text.now in
+    let labels = labels_of text a.labels.now in
+    let whole = bytes_from labels a.first 0 (said_from text 0) in
+    let on = subst (λ (p : Option ℕ). LaidOn whole a.code.now l.code (bytes_from labels a.first l.bytes (said_to text p)) l.bytes) c.in-Some.is l.invariant in
+    line-stored text c.in-Some.at _ c.line_at-line.ensures labels a.first l.bytes whole a.code.now l.code c.requires.0 c.requires.1 on _ _ c.behind.ensures (c.put.ensures _ c.line_at-line.ensures.body)
 
-pub loop-first-smaller : goal.loop-first-smaller
-loop-first-smaller c = let l = c.loop-first in omega (arith, end-behind c.args.text.now l.at, c.line_stop-end.ensures, c.if-text-end.false, l.invariant.0)
+pub returns-clause-value : goal.returns-clause-value
+returns-clause-value c =
+    let a = c.args in
+    let l = c.loop-place in
+    let text = a.text.now in
+    let labels = labels_of text a.labels.now in
+    let whole = bytes_from labels a.first 0 (said_from text 0) in
+    let on = subst (λ (p : Option ℕ). LaidOn whole a.code.now l.code (bytes_from labels a.first l.bytes (said_to text p)) l.bytes) c.in_default.is l.invariant in
+    (laid-all labels a.first l.bytes whole a.code.now l.code l.bytes on).0
 
-pub loop-first-preserved : goal.loop-first-preserved
-loop-first-preserved c =
-    let l = c.loop-first in
-    let text = c.args.text.now in
-    let h = c.head-h in
-    let labels = labels_at text c.args.places.now c.args.addresses.now in
-    let sized = c.size-bytes.ensures text _ c.body-b.ensures in
-    let on = line-stored text l.at h.result h.ensures labels c.args.first l.bytes (bytes_from labels c.args.first 0 (said_from text 0)) c.args.code.now l.code c.requires.0 c.requires.1 l.invariant.1 _ sized _ _ _ (said-next text l.at _ c.line_stop-end.ensures c.if-text-end.false) c.behind.ensures (c.put.ensures _ c.body-b.ensures) in
-    (omega (arith, c.if-text-end.false), on)
+pub returns-clause-code_after : goal.returns-clause-code_after
+returns-clause-code_after c =
+    let a = c.args in
+    let l = c.loop-place in
+    let text = a.text.now in
+    let labels = labels_of text a.labels.now in
+    let whole = bytes_from labels a.first 0 (said_from text 0) in
+    let on = subst (λ (p : Option ℕ). LaidOn whole a.code.now l.code (bytes_from labels a.first l.bytes (said_to text p)) l.bytes) c.in_default.is l.invariant in
+    (laid-all labels a.first l.bytes whole a.code.now l.code l.bytes on).1

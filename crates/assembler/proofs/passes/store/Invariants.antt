@@ -1,14 +1,12 @@
-use Prim.Native.Nat.{◌-◌, ◌≤◌}
-use lib.ListN.{length}
+use Rattle.assembler_forms.specs.Rows.{left_behind}
 use Rattle.assembly_rules.proofs.PassLaws.{bytes_from}
-use Rattle.assembler_text.specs.Places.{labels_at}
-use Rattle.assembler.specs.Passes.{said_from}
+use Rattle.assembler_text.specs.Places.{labels_of}
+use Rattle.assembler.specs.Passes.{said_from, said_to}
 use Rattle.assembler.proofs.WalkLaws.{LaidOn}
 use Rattle.assembler.proofs.passes.store.Given as goal
 
-abbrev pub invariant-loop-first : goal.invariant-loop-first
-invariant-loop-first l =
-    (l.at ≤ length l.text) × LaidOn (bytes_from (labels_at l.text l.places l.addresses) l.first 0 (said_from l.text 0)) l.initial.code l.code (bytes_from (labels_at l.text l.places l.addresses) l.first l.bytes (said_from l.text l.at)) l.bytes
+abbrev pub invariant-loop-place : goal.invariant-loop-place
+invariant-loop-place l = LaidOn (bytes_from (labels_of l.text l.labels) l.first 0 (said_from l.text 0)) l.initial.code l.code (bytes_from (labels_of l.text l.labels) l.first l.bytes (said_to l.text l.place)) l.bytes
 
-abbrev pub decreases-loop-first : goal.decreases-loop-first
-decreases-loop-first l = length l.text - l.at
+abbrev pub decreases-loop-place : goal.decreases-loop-place
+decreases-loop-place l = left_behind l.text l.place

@@ -1,26 +1,23 @@
 -- `assembler_text::constants::constant` meets its contract.
 -- Assumes nothing.
-use Prim.Native.Nat.{ℕ, ◌-◌, ◌≤◌}
-use native.Mathlib.Omega.{arith}
+use Prim.Native.Nat.{ℕ, ◌≤◌}
 use mathlib.Core.Path.{sym, ap, subst, ◌∙◌}
-use lib.ListN.{length, take}
-use lib.Seq.{length-take-le}
 use Rattle.assembly_rules.specs.Text.{capitals}
 use Rattle.assembly_rules.specs.Numbers.{is_radix, radix_of, digits_from}
-use Rattle.assembler_text.proofs.NameLaws.{constant-empty, constant-lettered, constant-plain, radix-most}
+use Rattle.assembler_text.proofs.NameLaws.{constant-empty, constant-lettered, constant-plain, radix_some, radix_none, radix-within}
 use Rattle.assembler_text.proofs.constants.constant.Goals as goal
 
-pub returns-then-len-eq0 : goal.returns-then-len-eq0
-returns-then-len-eq0 c = sym (constant-empty c.args.run.now c.if-len-eq0.true)
-
-pub slice_bounds-read_digits-end : goal.slice_bounds-read_digits-end
-slice_bounds-read_digits-end c = sym (length-take-le _ c.args.run.now (omega arith))
+pub returns-in_default : goal.returns-in_default
+returns-in_default c = sym (constant-empty c.args.run.now c.in_default.ensures.cases)
 
 pub read_digits-requires : goal.read_digits-requires
-read_digits-requires c = subst (λ (n : ℕ). n ≤ 16) (sym c.radix.ensures) (radix-most _)
+read_digits-requires c = subst (λ (r : ℕ). (2 ≤ r) × (r ≤ 16)) (sym (radix_some _ _ c.in-Some-radix.ensures).1) (radix-within c.capital.result)
 
-pub returns-then-is_radix : goal.returns-then-is_radix
-returns-then-is_radix c = c.read_digits.ensures ∙ ap (λ (r : ℕ). digits_from r 0 (capitals (take (length c.args.run.now - 1) c.args.run.now))) (c.radix.ensures ∙ ap radix_of c.capital-last.ensures) ∙ sym (constant-lettered c.args.run.now (length c.args.run.now - 1) (omega (arith, c.if-len-eq0.false)) (sym (c.is_radix.ensures ∙ ap is_radix c.capital-last.ensures) ∙ c.if-is_radix.true))
+pub returns-in-Some-radix : goal.returns-in-Some-radix
+returns-in-Some-radix c =
+    let told = radix_some _ _ c.in-Some-radix.ensures in
+    let letter = c.capital.ensures in
+    c.read_digits.ensures ∙ ap (λ (r : ℕ). digits_from r 0 (capitals c.in-Some.front.now)) (told.1 ∙ ap radix_of letter) ∙ sym (constant-lettered c.args.run.now c.in-Some.front.now c.in-Some.last.now c.in-Some.ensures.cases.0 (sym (ap is_radix letter) ∙ told.0))
 
-pub returns : goal.returns
-returns c = c.read_digits-2.ensures ∙ sym (constant-plain c.args.run.now (length c.args.run.now - 1) (omega (arith, c.if-len-eq0.false)) (sym (c.is_radix.ensures ∙ ap is_radix c.capital-last.ensures) ∙ c.if-is_radix.false))
+pub returns-in-None : goal.returns-in-None
+returns-in-None c = c.read_digits-in-None.ensures ∙ sym (constant-plain c.args.run.now c.in-Some.front.now c.in-Some.last.now c.in-Some.ensures.cases.0 (sym (ap is_radix c.capital.ensures) ∙ radix_none _ c.in-None.ensures))

@@ -1,40 +1,29 @@
--- `assembler_text::labels::is_name` meets its contract. The loop's invariant: what is left is the same as the whole is.
+-- `assembler_text::labels::is_name` meets its contract.
 -- Assumes nothing.
-use borrow.Author.Tests.{not-true, not-false}
-use mathlib.Core.Path.{refl, sym, ap, ◌∙◌}
-use mathlib.Core.Bool.{not}
-use Rattle.assembler_text.proofs.NameLaws.{name-over, name-no-run, name-differs, name-goes, name-ended, both-ended}
+use Rattle.std.proofs.Common.{rules, tests, ◌≡◌, drop, length}
+use mathlib.Core.Path.{sym, ap, ◌∙◌}
+use mathlib.Core.Bool.{Bool, not, ◌&&◌}
+use Rattle.std.proofs.lemmas.Iterator.{YieldsList-from_slice, YieldsList-from_zip}
+use Rattle.std.specs.List.{list_all, zip}
+use Rattle.std.proofs.lemmas.Iterator.Search.{all_from_yields_List}
+use Rattle.assembler_text.proofs.NameLaws.{same_pair, run_there, same-name, longer-name, run-behind, no-run-behind}
 use Rattle.assembler_text.proofs.labels.is_name.Goals as goal
 
-pub loop-i-init : goal.loop-i-init
-loop-i-init c = refl
+pub returns-then-chars-name : goal.returns-then-chars-name
+returns-then-chars-name c = sym (longer-name c.args.chars.now c.args.name.now c.if-chars-name.true)
 
-pub returns-then-chars-i : goal.returns-then-chars-i
-returns-then-chars-i c =
-    let l = c.loop-i in
-    sym (name-over c.args.chars.now c.args.name.now l.i c.loop-i-test.true c.if-chars-i.true) ∙ l.invariant
+pub returns-then-all : goal.returns-then-all
+returns-then-all c =
+    let name = c.args.name.now in
+    let chars = c.args.chars.now in
+    let all = all_from_yields_List same_pair c.all.new.self _ c.all.result c.all.ensures.ran (YieldsList-from_zip (YieldsList-from_slice name cc) (YieldsList-from_slice chars cc)) (λ x b q k. search (rules, tests)) in
+    let behind : c.is_some_and.result ≡ run_there (drop (length name) chars) = search (rules, tests, run-behind chars (length name), no-run-behind chars (length name)) in
+    ap (λ (b : Bool). b && not c.is_some_and.result) (sym c.if-all.true ∙ all) ∙ ap (λ (b : Bool). list_all same_pair (zip name chars) && not b) behind ∙ sym (same-name chars name c.if-chars-name.false)
 
-pub returns-then-not-is_run : goal.returns-then-not-is_run
-returns-then-not-is_run c =
-    let l = c.loop-i in
-    sym (name-no-run c.args.chars.now c.args.name.now l.i c.loop-i-test.true c.if-chars-i.false (sym c.is_run.ensures ∙ not-true _ c.if-not-is_run.true-raw)) ∙ l.invariant
-
-pub returns-then-capital : goal.returns-then-capital
-returns-then-capital c =
-    let l = c.loop-i in
-    sym (name-differs c.args.chars.now c.args.name.now l.i c.loop-i-test.true c.if-chars-i.false (sym c.is_run.ensures ∙ not-false _ c.if-not-is_run.false-raw) (λ e. c.if-capital.true (c.capital.ensures ∙ e ∙ sym c.capital-in-loop-i.ensures))) ∙ l.invariant
-
-pub loop-i-preserved : goal.loop-i-preserved
-loop-i-preserved c =
-    let l = c.loop-i in
-    sym (name-goes c.args.chars.now c.args.name.now l.i c.loop-i-test.true c.if-chars-i.false (sym c.is_run.ensures ∙ not-false _ c.if-not-is_run.false-raw) (sym c.capital.ensures ∙ c.if-capital.false ∙ c.capital-in-loop-i.ensures)) ∙ l.invariant
-
-pub returns-then-i-chars : goal.returns-then-i-chars
-returns-then-i-chars c =
-    let l = c.loop-i in
-    ap not c.is_run-then-i-chars.ensures ∙ sym (name-ended c.args.chars.now c.args.name.now l.i c.loop-i-test.false c.if-i-chars.true) ∙ l.invariant
-
-pub returns : goal.returns
-returns c =
-    let l = c.loop-i in
-    sym (both-ended c.args.chars.now c.args.name.now l.i c.loop-i-test.false c.if-i-chars.false) ∙ l.invariant
+pub returns-else-all : goal.returns-else-all
+returns-else-all c =
+    let name = c.args.name.now in
+    let chars = c.args.chars.now in
+    let all = all_from_yields_List same_pair c.all.new.self _ c.all.result c.all.ensures.ran (YieldsList-from_zip (YieldsList-from_slice name cc) (YieldsList-from_slice chars cc)) (λ x b q k. search (rules, tests)) in
+    let none = sym all ∙ c.if-all.false in
+    c.if-all.false ∙ sym (same-name chars name c.if-chars-name.false ∙ ap (λ (b : Bool). b && not (run_there (drop (length name) chars))) none)

@@ -1,5 +1,6 @@
 -- `assembler_text::labels::named` meets its contract.
 -- Assumes nothing.
+use Rattle.std.proofs.Common.{rules, tests, ◌<◌, length}
 use Prim.Native.Nat.{ℕ}
 use mathlib.Core.Path.{ap, ◌∙◌}
 use mathlib.Core.List.{List}
@@ -10,9 +11,13 @@ use Rattle.assembler_text.specs.Places.{name_at}
 use Rattle.assembler_text.proofs.NameLaws.{name-nowhere}
 use Rattle.assembler_text.proofs.labels.named.Goals as goal
 
-pub returns-then-text-place : goal.returns-then-text-place
-returns-then-text-place c = name-nowhere c.args.text.now c.args.place c.args.name.now c.if-text-place.true
-
-pub returns : goal.returns
+pub returns-in-Some : goal.returns-in-Some
 unfolding name_at
-returns c = c.is_name.ensures ∙ ap (λ (x : List ℕ). same_text (leading_run x) (capitals c.args.name.now)) (part_to_end c.args.text.now c.args.place)
+returns-in-Some c =
+    let text = c.args.text.now in
+    c.is_name.ensures ∙ ap (λ (x : List ℕ). same_text (leading_run x) (capitals c.args.name.now)) (c.in-Some.ensures.lookup.0.2 ∙ part_to_end text c.args.place)
+
+pub returns-in-None : goal.returns-in-None
+returns-in-None c =
+    let past : length c.args.text.now < c.args.place = search (rules, tests) in
+    c.is_empty.ensures ∙ name-nowhere c.args.text.now c.args.place c.args.name.now past

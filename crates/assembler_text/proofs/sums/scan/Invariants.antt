@@ -5,8 +5,8 @@ use Rattle.assembly_rules.specs.Sums.{scan_start}
 use Rattle.assembler_text.proofs.PlaceLaws.{scan_at}
 use Rattle.assembler_text.proofs.sums.scan.Given as goal
 
-abbrev pub invariant-loop-i : goal.invariant-loop-i
-invariant-loop-i l = (scan_at l.s l.text l.i ≡ scan_at scan_start l.text l.at) × (l.s.opened ≤ l.i)
+abbrev pub invariant-loop-role : goal.invariant-loop-role
+invariant-loop-role l = (scan_at l.scan l.text l.i ≡ scan_at scan_start l.text l.at) × (l.scan.opened ≤ l.i)
 
-abbrev pub decreases-loop-i : goal.decreases-loop-i
-decreases-loop-i l = length l.text - l.i
+abbrev pub decreases-loop-role : goal.decreases-loop-role
+decreases-loop-role l = length l.text - l.i

@@ -1,142 +1,172 @@
--- `assembler_text::values::sum` and `term` meet their contracts, in one proof: the measure is twice the depth for `term`, and one more for `sum`. The loop's invariant: the rest of the sum from here gives what the whole gives.
+-- `assembler_text::values::sum` and `assembler_text::values::term` meet their contracts. The loop's invariant: the rest behind
+-- what is worth so much so far gives what the whole gives.
 -- Assumes nothing.
-use mathlib.Core.Bool.{true}
+use Prim.Native.Nat.{ℕ}
+use native.Mathlib.Omega.{arith}
+use Rattle.std.proofs.Common.{rules, tests, ◌≡◌, false}
 use mathlib.Core.Path.{sym, ap, ◌∙◌}
 use lib.ListN.{drop}
+use Rattle.std.specs.declared.option.Option.TheVariants.{None, Some}
+use Rattle.std.specs.declared.result.Result.TheVariants.{Err}
+use Rattle.assembler_text.specs.declared.values.Unsummed.TheVariants.{NoSum}
 use Rattle.assembly_rules.specs.declared.Worth.{Worth}
-use Rattle.assembly_rules.specs.Text.{capitals, tokens_of}
-use Rattle.assembly_rules.specs.Sums.{Read, worth, combined_worth, and_then, close_at, term_of}
+use Rattle.assembly_rules.specs.Text.{tokens_of}
+use Rattle.assembly_rules.specs.Sums.{Read, combined_worth, and_then, close_at, term_of}
 use Rattle.assembler_text.specs.declared.values.Sign.{Sign}
-use Rattle.assembler_text.specs.Places.{between, labels_at}
-use Rattle.assembler_text.specs.Reads.{read_as}
-use Rattle.assembler_text.proofs.PlaceLaws.{run_lies, mark-tokens, run-tokens, no-tokens-there}
-use Rattle.assembler_text.proofs.ReadLaws.{goes_from, term-none, term-run, term-other, term-deep, term-open, sum-fails, sum-starts, sum-stops, sum_over, sum-breaks, sum_goes, sum_less}
+use Rattle.assembler_text.specs.Places.{token_at, mark_of, lead_at, labels_of}
+use Rattle.assembler_text.specs.Reads.{read_as, closed_as, worth_before}
+use Rattle.assembler_text.proofs.PlaceLaws.{run_lies}
+use Rattle.assembler_text.proofs.ReadLaws.{goes_from, fails-then, begins_term, term-wrong, term-of-run, term-too-deep, term-inside, sum-fails, sum-starts, sum-stops, sum-breaks, sum_goes, sum_less}
 use Rattle.assembler_text.proofs.values.+sum_term.Goals as goal
 
-pub sum-returns-in_default : goal.sum-returns-in_default
+pub sum-returns-in_err-worth : goal.sum-returns-in_err-worth
 unfolding read_as
-sum-returns-in_default t c =
+sum-returns-in_err-worth t c =
     let a = c.args in
     let text = a.text.now in
-    let labels = labels_at text a.places.now a.addresses.now in
-    let b = c.in_default.field-0 in
-    let e = ap (λ (g : Sign). term_of a.depth labels (tokens_of (drop g.next text))) (sym c.lead_at-lead.ensures) ∙ sym c.term-first.ensures ∙ ap (read_as text) c.in_default.is in
-    ap (read_as text) c.in_default.is ∙ sym (sum-fails a.depth labels text a.at b e)
+    let labels = labels_of text a.labels.now in
+    let e = ap (λ (g : Sign × ℕ). term_of a.depth labels (tokens_of (drop g.1 text))) (sym c.lead_at-sign.ensures) ∙ sym c.in_err-worth.ensures in
+    let err : c.from_residual.result ≡ Err c.in_err-worth.field-0.0 = search (rules, tests) in
+    ap (read_as text) err ∙ sym (sum-fails a.depth labels text a.at _ e)
 
-pub sum-loop-i-init : goal.sum-loop-i-init
+pub sum-loop-sign-init : goal.sum-loop-sign-init
 unfolding read_as
-sum-loop-i-init t c =
+sum-loop-sign-init t c =
     let a = c.args in
     let text = a.text.now in
-    let labels = labels_at text a.places.now a.addresses.now in
-    let w = c.in-Value.w in
-    let next = c.in-Value.next in
-    let e = ap (λ (g : Sign). term_of a.depth labels (tokens_of (drop g.next text))) (sym c.lead_at-lead.ensures) ∙ sym c.term-first.ensures ∙ ap (read_as text) c.in-Value.is in
-    ap (λ (x : Worth). goes_from a.depth labels text x next) (c.combined-total.ensures ∙ ap (λ (g : Sign). combined_worth g.sign (worth 0 true) w) c.lead_at-lead.ensures) ∙ sum-starts a.depth labels text a.at w next e
+    let labels = labels_of text a.labels.now in
+    let w = c.in_ok-worth.worth in
+    let e = ap (λ (g : Sign × ℕ). term_of a.depth labels (tokens_of (drop g.1 text))) (sym c.lead_at-sign.ensures) ∙ sym c.in_ok-worth.ensures in
+    let total = c.combined-total.ensures ∙ ap (λ (g : Sign × ℕ). combined_worth (mark_of g.0) c.known.result w) c.lead_at-sign.ensures ∙ ap (λ (z : Worth). combined_worth (mark_of (lead_at text a.at).0) z w) c.known.ensures in
+    ap (λ (x : Worth). goes_from a.depth labels text x c.in_ok-worth.behind) total ∙ sum-starts a.depth labels text a.at w c.in_ok-worth.behind e
 
-pub sum-returns-then-s-eq0 : goal.sum-returns-then-s-eq0
+pub sum-returns-in_err-worth-2 : goal.sum-returns-in_err-worth-2
 unfolding read_as
-sum-returns-then-s-eq0 t c =
+sum-returns-in_err-worth-2 t c =
     let a = c.args in
     let text = a.text.now in
-    let labels = labels_at text a.places.now a.addresses.now in
-    let l = c.loop-i in
-    sym (sum-stops a.depth labels text l.total l.i (ap (λ (g : Sign). g.sign) (sym c.sign_at-s.ensures) ∙ c.if-s-eq0.true)) ∙ l.invariant
+    let labels = labels_of text a.labels.now in
+    let l = c.loop-sign in
+    let err : c.from_residual-in_err-worth-2.result ≡ Err c.in_err-worth-2.field-0.0 = search (rules, tests) in
+    ap (read_as text) err ∙ sym (sum-breaks a.depth labels text l.total l.i _ _ (sym c.in-Some.ensures) _ (sym c.in_err-worth-2.ensures)) ∙ l.invariant
 
-pub sum-returns-in_default-t : goal.sum-returns-in_default-t
+pub sum-loop-sign-smaller : goal.sum-loop-sign-smaller
 unfolding read_as
-sum-returns-in_default-t t c =
+sum-loop-sign-smaller t c =
     let a = c.args in
     let text = a.text.now in
-    let labels = labels_at text a.places.now a.addresses.now in
-    let l = c.loop-i in
-    let b = c.in_default-t.field-0 in
-    let e = ap (λ (g : Sign). term_of a.depth labels (tokens_of (drop g.next text))) (sym c.sign_at-s.ensures) ∙ sym c.term-t.ensures ∙ ap (read_as text) c.in_default-t.is in
-    ap (read_as text) c.in_default-t.is ∙ sym (sum-breaks a.depth labels text l.total l.i (λ z. c.if-s-eq0.false (ap (λ (g : Sign). g.sign) c.sign_at-s.ensures ∙ z)) b e) ∙ l.invariant
+    let labels = labels_of text a.labels.now in
+    let l = c.loop-sign in
+    sum_less a.depth labels text l.total l.i _ _ (sym c.in-Some.ensures) c.in_ok-worth-2.worth c.in_ok-worth-2.behind (sym c.in_ok-worth-2.ensures)
 
-pub sum-loop-i-smaller : goal.sum-loop-i-smaller
+pub sum-loop-sign-preserved : goal.sum-loop-sign-preserved
 unfolding read_as
-sum-loop-i-smaller t c =
+sum-loop-sign-preserved t c =
     let a = c.args in
     let text = a.text.now in
-    let labels = labels_at text a.places.now a.addresses.now in
-    let l = c.loop-i in
-    let x = c.in-Value-t.x in
-    let behind = c.in-Value-t.behind in
-    let e = ap (λ (g : Sign). term_of a.depth labels (tokens_of (drop g.next text))) (sym c.sign_at-s.ensures) ∙ sym c.term-t.ensures ∙ ap (read_as text) c.in-Value-t.is in
-    sum_less a.depth labels text l.total l.i (λ z. c.if-s-eq0.false (ap (λ (g : Sign). g.sign) c.sign_at-s.ensures ∙ z)) x behind e
-
-pub sum-loop-i-preserved : goal.sum-loop-i-preserved
-unfolding read_as
-sum-loop-i-preserved t c =
-    let a = c.args in
-    let text = a.text.now in
-    let labels = labels_at text a.places.now a.addresses.now in
-    let l = c.loop-i in
-    let x = c.in-Value-t.x in
-    let behind = c.in-Value-t.behind in
-    let e = ap (λ (g : Sign). term_of a.depth labels (tokens_of (drop g.next text))) (sym c.sign_at-s.ensures) ∙ sym c.term-t.ensures ∙ ap (read_as text) c.in-Value-t.is in
-    ap (λ (y : Worth). goes_from a.depth labels text y behind) (c.combined-total-in-loop-i.ensures ∙ ap (λ (g : Sign). combined_worth g.sign l.total x) c.sign_at-s.ensures) ∙ sum_goes a.depth labels text l.total l.i (λ z. c.if-s-eq0.false (ap (λ (g : Sign). g.sign) c.sign_at-s.ensures ∙ z)) x behind e ∙ l.invariant
+    let labels = labels_of text a.labels.now in
+    let l = c.loop-sign in
+    ap (λ (x : Worth). goes_from a.depth labels text x c.in_ok-worth-2.behind) c.combined-total-in-Some.ensures ∙ sum_goes a.depth labels text l.total l.i _ _ (sym c.in-Some.ensures) c.in_ok-worth-2.worth c.in_ok-worth-2.behind (sym c.in_ok-worth-2.ensures) ∙ l.invariant
 
 pub sum-returns : goal.sum-returns
 unfolding read_as
 sum-returns t c =
     let a = c.args in
     let text = a.text.now in
-    let labels = labels_at text a.places.now a.addresses.now in
-    let l = c.loop-i in
-    sym (sum_over a.depth labels text l.total l.i c.loop-i-test.false) ∙ l.invariant
+    let labels = labels_of text a.labels.now in
+    let l = c.loop-sign in
+    sym (sum-stops a.depth labels text l.total l.i (sym c.in_default.ensures)) ∙ l.invariant
 
-pub term-run_worth-requires : goal.term-run_worth-requires
-unfolding read_as
-term-run_worth-requires t c =
-    let l = run_lies c.args.text.now c.args.at _ _ (sym c.token_at.ensures ∙ c.in-Run.is) in
-    (l.1, l.2)
+pub term-slice_bounds-run_worth-count : goal.term-slice_bounds-run_worth-count
+term-slice_bounds-run_worth-count t c = let l = run_lies c.args.text.now c.args.at _ _ (sym c.in-Some-Run.ensures ∙ ap Some c.in-Some-Run.field-0-is) in omega (arith, l.1)
 
-pub term-returns-then-c-ne40 : goal.term-returns-then-c-ne40
-unfolding read_as
-term-returns-then-c-ne40 t c =
+pub term-slice_bounds-run_worth-start : goal.term-slice_bounds-run_worth-start
+term-slice_bounds-run_worth-start t c = let l = run_lies c.args.text.now c.args.at _ _ (sym c.in-Some-Run.ensures ∙ ap Some c.in-Some-Run.field-0-is) in omega (arith, l.1)
+
+pub term-slice_bounds-run_worth-end : goal.term-slice_bounds-run_worth-end
+term-slice_bounds-run_worth-end t c = (run_lies c.args.text.now c.args.at _ _ (sym c.in-Some-Run.ensures ∙ ap Some c.in-Some-Run.field-0-is)).2
+
+pub term-returns-in_err-worth-in-Some-Run : goal.term-returns-in_err-worth-in-Some-Run
+unfolding read_as worth_before
+term-returns-in_err-worth-in-Some-Run t c =
     let a = c.args in
     let text = a.text.now in
-    let labels = labels_at text a.places.now a.addresses.now in
-    let m = c.in-Mark.c in
-    let next = c.in-Mark.next in
-    sym (ap (term_of a.depth labels) (mark-tokens text a.at m next (sym c.token_at.ensures ∙ c.in-Mark.is)) ∙ term-other labels a.depth m (tokens_of (drop next text)) c.if-c-ne40.true)
+    let labels = labels_of text a.labels.now in
+    let run = c.in-Some-Run in
+    let none : c.run_worth.result ≡ None = search (rules, tests) in
+    let err : c.from_residual.result ≡ Err NoSum = search (rules, tests) in
+    let ts = tokens_of (drop run.to text) in
+    ap (read_as text) err ∙ sym (ap (worth_before ts) none) ∙ term-of-run a.depth labels text a.at run.from run.to (sym run.ensures ∙ ap Some run.field-0-is) c.run_worth.result (c.run_worth.ensures ts)
 
 pub term-returns-then-depth-eq0 : goal.term-returns-then-depth-eq0
 unfolding read_as
 term-returns-then-depth-eq0 t c =
     let a = c.args in
     let text = a.text.now in
-    let labels = labels_at text a.places.now a.addresses.now in
-    let m = c.in-Mark.c in
-    let next = c.in-Mark.next in
-    sym (ap (term_of a.depth labels) (mark-tokens text a.at m next (sym c.token_at.ensures ∙ c.in-Mark.is)) ∙ term-deep labels a.depth m (tokens_of (drop next text)) c.if-c-ne40.false c.if-depth-eq0.true)
+    let mark = c.in-Some-Mark-eq40-default in
+    sym (term-too-deep a.depth (labels_of text a.labels.now) text a.at _ _ (sym mark.ensures ∙ ap Some mark.field-0-is) mark.field-0-0-test c.if-depth-eq0.true)
 
-pub term-returns-in-Nothing : goal.term-returns-in-Nothing
+pub term-returns-in_err-worth-in-Some-Mark-eq40-default : goal.term-returns-in_err-worth-in-Some-Mark-eq40-default
 unfolding read_as
-term-returns-in-Nothing t c =
+term-returns-in_err-worth-in-Some-Mark-eq40-default t c =
     let a = c.args in
     let text = a.text.now in
-    let labels = labels_at text a.places.now a.addresses.now in
-    sym (ap (term_of a.depth labels) (no-tokens-there text a.at (sym c.token_at.ensures ∙ c.in-Nothing.is)) ∙ term-none labels a.depth)
+    let labels = labels_of text a.labels.now in
+    let mark = c.in-Some-Mark-eq40-default in
+    let inner = c.in_err-worth-in-Some-Mark-eq40-default.ensures in
+    let err : c.from_residual-in_err-worth-in-Some-Mark-eq40-default.result ≡ Err c.in_err-worth-in-Some-Mark-eq40-default.field-0.0 = search (rules, tests) in
+    ap (read_as text) err ∙ sym (fails-then _ close_at) ∙ ap (λ (x : Read). and_then x close_at) inner
+    ∙ sym (term-inside a.depth labels text a.at _ _ (sym mark.ensures ∙ ap Some mark.field-0-is) mark.field-0-0-test c.if-depth-eq0.false)
 
-pub term-returns-in-Run : goal.term-returns-in-Run
-unfolding read_as
-term-returns-in-Run t c =
+pub term-returns-in_err-close-in-Some-Mark-eq40-default : goal.term-returns-in_err-close-in-Some-Mark-eq40-default
+unfolding read_as closed_as
+term-returns-in_err-close-in-Some-Mark-eq40-default t c =
     let a = c.args in
     let text = a.text.now in
-    let labels = labels_at text a.places.now a.addresses.now in
-    let from = c.in-Run.from in
-    let to = c.in-Run.to in
-    c.run_worth.ensures ∙ sym (ap (term_of a.depth labels) (run-tokens text a.at from to (sym c.token_at.ensures ∙ c.in-Run.is)) ∙ term-run labels a.depth (capitals (between text from to)) (tokens_of (drop to text)))
+    let labels = labels_of text a.labels.now in
+    let mark = c.in-Some-Mark-eq40-default in
+    let inner = c.in_ok-worth-in-Some-Mark-eq40-default in
+    let err : c.from_residual-in_err-close-in-Some-Mark-eq40-default.result ≡ Err c.in_err-close-in-Some-Mark-eq40-default.field-0.0 = search (rules, tests) in
+    ap (read_as text) err
+    ∙ c.in_err-close-in-Some-Mark-eq40-default.ensures inner.worth
+    ∙ ap (λ (x : Read). and_then x close_at) inner.ensures
+    ∙ sym (term-inside a.depth labels text a.at _ _ (sym mark.ensures ∙ ap Some mark.field-0-is) mark.field-0-0-test c.if-depth-eq0.false)
 
-pub term-returns-else-depth-eq0 : goal.term-returns-else-depth-eq0
-unfolding read_as
-term-returns-else-depth-eq0 t c =
+pub term-returns-in_ok-worth-in-Some-Run : goal.term-returns-in_ok-worth-in-Some-Run
+unfolding read_as worth_before
+term-returns-in_ok-worth-in-Some-Run t c =
     let a = c.args in
     let text = a.text.now in
-    let labels = labels_at text a.places.now a.addresses.now in
-    let m = c.in-Mark.c in
-    let next = c.in-Mark.next in
-    c.close.ensures ∙ ap (λ (x : Read). and_then x close_at) c.sum.ensures ∙ sym (ap (term_of a.depth labels) (mark-tokens text a.at m next (sym c.token_at.ensures ∙ c.in-Mark.is)) ∙ term-open labels a.depth m (tokens_of (drop next text)) c.if-c-ne40.false c.if-depth-eq0.false)
+    let labels = labels_of text a.labels.now in
+    let run = c.in-Some-Run in
+    let some : c.run_worth.result ≡ Some c.in_ok-worth-in-Some-Run.worth = search (rules, tests) in
+    let ts = tokens_of (drop run.to text) in
+    sym (ap (worth_before ts) some) ∙ term-of-run a.depth labels text a.at run.from run.to (sym run.ensures ∙ ap Some run.field-0-is) c.run_worth.result (c.run_worth.ensures ts)
+
+pub term-returns-in_ok-close-in-Some-Mark-eq40-default : goal.term-returns-in_ok-close-in-Some-Mark-eq40-default
+unfolding read_as closed_as
+term-returns-in_ok-close-in-Some-Mark-eq40-default t c =
+    let a = c.args in
+    let text = a.text.now in
+    let labels = labels_of text a.labels.now in
+    let mark = c.in-Some-Mark-eq40-default in
+    let inner = c.in_ok-worth-in-Some-Mark-eq40-default in
+    c.in_ok-close-in-Some-Mark-eq40-default.ensures inner.worth
+    ∙ ap (λ (x : Read). and_then x close_at) inner.ensures
+    ∙ sym (term-inside a.depth labels text a.at _ _ (sym mark.ensures ∙ ap Some mark.field-0-is) mark.field-0-0-test c.if-depth-eq0.false)
+
+pub term-returns-in_default : goal.term-returns-in_default
+unfolding read_as
+term-returns-in_default t c =
+    let a = c.args in
+    let text = a.text.now in
+    let none : begins_term (token_at text a.at) ≡ false = search (rules, tests) in
+    sym (term-wrong a.depth (labels_of text a.labels.now) text a.at none)
+
+pub term-returns-in_default-2 : goal.term-returns-in_default-2
+unfolding read_as
+term-returns-in_default-2 t c =
+    let a = c.args in
+    let text = a.text.now in
+    let none : begins_term (token_at text a.at) ≡ false = search (rules, tests) in
+    sym (term-wrong a.depth (labels_of text a.labels.now) text a.at none)

@@ -1,6 +1,5 @@
 -- `attention::effects::commanded` meets its contract.
 -- Assumes nothing.
-use borrow.Author.Rules.{rules}
 use mathlib.Core.Path.{◌∙◌}
 use Rattle.ground_rules.proofs.PlaceLaws.{byte-reduced}
 use Rattle.attention_rules.specs.Effects.{commanded}

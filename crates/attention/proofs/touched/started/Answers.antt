@@ -1,6 +1,5 @@
 -- `attention::touched::started` meets its contract.
 -- Assumes nothing.
-use borrow.Author.Rules.{rules}
 use mathlib.Core.Bool.{and_assoc}
 use Rattle.ground_rules.proofs.SpanLaws.{all_append}
 use Rattle.attention.proofs.touched.started.Goals as goal

@@ -1,6 +1,5 @@
 -- `attention::touched::stored` meets its contract.
 -- Assumes nothing.
-use borrow.Author.Rules.{rules}
 use Rattle.ground_rules.proofs.SpanLaws.{all_append}
 use Rattle.attention.proofs.touched.stored.Goals as goal
 

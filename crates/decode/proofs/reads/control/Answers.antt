@@ -1,6 +1,5 @@
 -- `decode::reads::control` meets its contract: of the rows of the control codes RRR chooses one, and the other columns are those of all four.
 -- Assumes nothing.
-use borrow.Author.Rules.{rules}
 use borrow.Author.Tests.{lt-leb, le-leb, ne_eqb}
 use mathlib.Core.Bool.{and-false}
 use Prim.Native.Nat.{◌≤◌, ◌<◌}

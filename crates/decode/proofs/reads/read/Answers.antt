@@ -1,6 +1,5 @@
 -- `decode::reads::read` meets its contract: the first digit of a cell chooses the form, and its row is the one that the arm reads.
 -- Assumes nothing.
-use borrow.Author.Rules.{rules}
 use borrow.Author.Tests.{ne_eqb}
 use mathlib.Core.Path.{refl, sym, ◌∙◌}
 use Prim.Native.Nat.{◌%◌}

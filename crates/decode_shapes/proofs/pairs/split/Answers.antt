@@ -1,6 +1,5 @@
 -- `decode_shapes::pairs::split` meets its contract: each field is the definition's.
 -- Assumes nothing.
-use borrow.Author.Rules.{rules}
 use Rattle.instruction_rules.specs.Pairs.{pair_of}
 use Rattle.decode_shapes.proofs.pairs.split.Goals as goal
 

@@ -6,4 +6,4 @@ use Rattle.execute.proofs.control.hlt.Goals as goal
 pub returns : goal.returns
 returns c =
     let a = c.args in
-    λ m ch. rw c.stopped_psw.ensures (works-hlt a.f m ch a.busy)
+    λ m ch. rw (c.past.ensures, c.stopped_psw.ensures) (works-hlt a.f m ch a.busy)

@@ -2,10 +2,11 @@
 -- Assumes nothing.
 use Rattle.std.proofs.Common.{sym, ◌∙◌}
 use Rattle.execute.proofs.ControlWorks.{works-sintr}
+use borrow.Author.Tests.{not-true, not-false}
 use Rattle.execute.proofs.control.sintr.Goals as goal
 
-pub returns-then-interrupt_control : goal.returns-then-interrupt_control
-returns-then-interrupt_control c = λ busy m ch. rw c.leaves.ensures (works-sintr c.args.f m ch busy _ (simp (c.with.ensures, sym c.interrupt_control.ensures ∙ c.if-interrupt_control.true)))
+pub returns-then-not-interrupt_control : goal.returns-then-not-interrupt_control
+returns-then-not-interrupt_control c = λ busy m ch. rw c.past.ensures (works-sintr c.args.f m ch busy _ (simp (sym c.interrupt_control.ensures ∙ not-true _ c.if-not-interrupt_control.true-raw)))
 
-pub returns-else-interrupt_control : goal.returns-else-interrupt_control
-returns-else-interrupt_control c = λ busy m ch. rw c.leaves-else-interrupt_control.ensures (works-sintr c.args.f m ch busy _ (simp (sym c.interrupt_control.ensures ∙ c.if-interrupt_control.false)))
+pub returns : goal.returns
+returns c = λ busy m ch. rw c.past-2.ensures (works-sintr c.args.f m ch busy _ (simp (c.with.ensures, sym c.interrupt_control.ensures ∙ not-false _ c.if-not-interrupt_control.false-raw)))

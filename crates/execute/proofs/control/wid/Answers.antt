@@ -6,4 +6,4 @@ use Rattle.execute.proofs.control.wid.Goals as goal
 pub returns : goal.returns
 returns c =
     let a = c.args in
-    λ busy m ch. rw (c.leaves.ensures, c.with.ensures, c.with-first.ensures) (works-wid a.f m ch a.source a.destination busy)
+    λ busy m ch. rw (c.past.ensures, c.with.ensures, c.with-first.ensures) (works-wid a.f m ch a.source a.destination busy)

@@ -4,4 +4,4 @@ use Rattle.execute.proofs.ControlWorks.{works-xfer}
 use Rattle.execute.proofs.control.xfer.Goals as goal
 
 pub returns : goal.returns
-returns c = λ busy m ch. rw c.leaves.ensures (works-xfer c.args.f m ch busy)
+returns c = λ busy m ch. rw c.past.ensures (works-xfer c.args.f m ch busy)

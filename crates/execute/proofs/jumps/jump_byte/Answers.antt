@@ -3,4 +3,4 @@
 use Rattle.execute.proofs.jumps.jump_byte.Goals as goal
 
 pub returns : goal.returns
-returns c = simp (c.leaves.ensures, c.grown_ix.ensures, c.led_by.ensures)
+returns c = simp (c.past.ensures, c.grown_ix.ensures, c.led_by.ensures)

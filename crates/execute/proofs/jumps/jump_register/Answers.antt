@@ -6,4 +6,4 @@ use Rattle.execute.proofs.jumps.jump_register.Goals as goal
 pub returns : goal.returns
 returns c =
     let a = c.args in
-    λ busy m ch. rw (c.leaves.ensures, c.led_by.ensures, c.agrees-taken.ensures) (works-jump-register a.f m ch a.zero a.rrr a.two busy)
+    λ busy m ch. rw (c.past.ensures, c.led_by.ensures, c.agrees-taken.ensures) (works-jump-register a.f m ch a.zero a.rrr a.two busy)

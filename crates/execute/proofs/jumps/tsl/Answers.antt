@@ -11,4 +11,4 @@ returns-then-f-eq0 c =
 pub returns : goal.returns
 returns c =
     let a = c.args in
-    λ busy m ch. rw (c.leaves.ensures, c.landing_by.ensures, c.grown_ix-ix.ensures) (works-tsl-led a.f m ch a.o busy c.if-f-eq0.false)
+    λ busy m ch. rw (c.past.ensures, c.landing_by.ensures, c.grown_ix-ix.ensures) (works-tsl-led a.f m ch a.o busy c.if-f-eq0.false)

@@ -1,7 +1,22 @@
--- `execute::memories::mov_operand` meets its contract.
+-- `memories::mov_operand` meets its contract.
 -- Assumes nothing.
-use Rattle.execute.proofs.MemoryWorks.{does-mov-operand}
+use Rattle.std.proofs.Common.{sym, ap, ◌∙◌, ℕ}
+use borrow.Author.Tests.{not-true, not-false}
+use Rattle.ground_rules.specs.Buffers.{buffers}
+use Rattle.ground_rules.specs.Places.{span, all_touchable}
+use Rattle.execute.proofs.MemoryWorks.{does-mov-operand, refuses-mov-operand}
 use Rattle.execute.proofs.memories.mov_operand.Goals as goal
 
+pub returns-then-not-span_touchable : goal.returns-then-not-span_touchable
+returns-then-not-span_touchable c known e =
+    let a = c.args in
+    let m = buffers a.sys.now a.io.now in
+    refuses-mov-operand m a.c a.o a.q a.f (ap (λ (n : ℕ). all_touchable m (span a.f.code a.f.tp n)) (sym c.offset_length-n.ensures) ∙ sym c.span_touchable.ensures ∙ not-true _ c.if-not-span_touchable.true-raw) known e
+
 pub returns : goal.returns
-returns c known e = simp (c.operand_in.ensures, c.sum20-2.ensures, c.second_index.ensures, c.size-2.ensures, c.grown_by_width.ensures, c.sum20.ensures, c.size.ensures, c.two_unless.ensures, c.span_touchable.ensures, c.offset_length-n.ensures, c.base-base.ensures, c.grown_by_width-ix.ensures) (does-mov-operand _ _ _ _ _ known e)
+returns c known e =
+    let a = c.args in
+    let m = buffers a.sys.now a.io.now in
+    let touched = ap (λ (n : ℕ). all_touchable m (span a.f.code a.f.tp n)) (sym c.offset_length-n.ensures) ∙ sym c.span_touchable.ensures ∙ not-false _ c.if-not-span_touchable.false-raw in
+    rw (c.past.ensures, c.operand_in.ensures, c.sum20-2.ensures, c.added.ensures, c.grown_by_width.ensures, c.sum20.ensures, c.size-size.ensures, c.offset_length-n.ensures, c.base-base.ensures, c.grown_by_width-ix.ensures)
+    (does-mov-operand m a.c a.o a.q a.f touched known e)

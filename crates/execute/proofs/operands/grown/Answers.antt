@@ -1,14 +1,14 @@
--- `execute::operands::grown` meets its contract.
+-- `operands::grown` meets its contract.
 -- Assumes nothing.
-use Rattle.std.proofs.Common.{eq-eqb, ne_eqb}
-use Rattle.instruction_rules.specs.Operands.{grown}
+use Rattle.std.proofs.Common.{Bool, true, false, eqb, ◌≡◌, ℕ, refl}
+use Rattle.ground_rules.specs.Choice.{pick}
 use Rattle.ground_rules.specs.Updates.{renewed}
+use Rattle.ground_rules.specs.declared.Channel.{Channel}
+use Rattle.instruction_rules.specs.Operands.{grown}
+use Rattle.instruction_rules.specs.declared.Memory.{Memory}
+use Rattle.execute.specs.Bytes.{grown_ix}
 use Rattle.execute.proofs.operands.grown.Goals as goal
 
-pub returns-then-m-eq3 : goal.returns-then-m-eq3
-unfolding grown renewed
-returns-then-m-eq3 c = simp (c.wrapping_add_u16.ensures.value, c.if-m-eq3.true, eq-eqb _ _ c.if-m-eq3.true)
-
-pub returns-else-m-eq3 : goal.returns-else-m-eq3
-unfolding grown renewed
-returns-else-m-eq3 c = simp (ne_eqb _ _ c.if-m-eq3.false)
+pub returns : goal.returns
+unfolding grown renewed grown_ix
+returns c = simp c.grown_ix.ensures

@@ -13,34 +13,12 @@ pub loop-at-init : goal.loop-at-init
 loop-at-init c =
     (going_start c.lent_part-part.result.now c.args.first c.args.text.now, omega (arith, ap length c.lent_part-part.ensures, length-take list_limit c.args.code.now))
 
-pub row_at-row-requires : goal.row_at-row-requires
-row_at-row-requires c = (c.loop-at.invariant.0.place, c.loop-at.invariant.1)
-
-pub overflow_sub-text : goal.overflow_sub-text
-overflow_sub-text c = let g = c.loop-at.invariant.0 in omega (arith, g.room, g.size)
-
-pub overflow_cast-result : goal.overflow_cast-result
-overflow_cast-result c = let g = c.loop-at.invariant in omega (arith, g.0.few, g.0.place, g.1)
-
-pub overflow_cast-result-then-text-n : goal.overflow_cast-result-then-text-n
-overflow_cast-result-then-text-n c = let g = c.loop-at.invariant in omega (arith, g.0.place, g.1)
-
 pub returns-then-text-n : goal.returns-then-text-n
 unfolding listing_of
 returns-then-text-n c =
     let l = c.loop-at in
     going-stop c.lent_part-part.result.now c.args.first c.args.text.now l.text l.at l.n l.invariant.0 c.loop-at-test.true _ c.row_at-row.ensures (omega (arith, c.if-text-n.true, l.invariant.0.size))
     ∙ ap (λ (p : List ℕ). placed (kept_in (length c.args.text.now) (lines_of c.args.first p)) c.args.text.now) c.lent_part-part.ensures
-
-pub place-requires : goal.place-requires
-place-requires c =
-    let g = c.loop-at.invariant.0 in
-    let s = c.row_at-row.ensures in
-    let r = c.row_at-row.result in
-    record { len_in_bounds = omega (arith, g.room, g.size, c.if-text-n.false); len_bound = (s.short, omega (arith, s.size, length-take r.line.len r.line.chars)) }
-
-pub overflow_add-n : goal.overflow_add-n
-overflow_add-n c = let g = c.loop-at.invariant.0 in omega (arith, g.room, g.size, c.row_at-row.ensures.short, c.if-text-n.false)
 
 pub overflow_add-at : goal.overflow_add-at
 overflow_add-at c =
@@ -56,12 +34,6 @@ pub loop-at-preserved : goal.loop-at-preserved
 loop-at-preserved c =
     let l = c.loop-at in
     (rw c.place.ensures (going_next c.lent_part-part.result.now c.args.first c.args.text.now l.text l.at l.n l.invariant.0 c.loop-at-test.true _ c.row_at-row.ensures (omega (arith, c.if-text-n.false, l.invariant.0.size))), l.invariant.1)
-
-pub overflow_cast-result-2 : goal.overflow_cast-result-2
-overflow_cast-result-2 c = let g = c.loop-at.invariant in omega (arith, g.0.few, g.0.place, g.1)
-
-pub overflow_cast-result-3 : goal.overflow_cast-result-3
-overflow_cast-result-3 c = let g = c.loop-at.invariant in omega (arith, g.0.place, g.1)
 
 pub returns : goal.returns
 unfolding listing_of

@@ -4,15 +4,10 @@ use mathlib.Core.Path.{ap, ◌∙◌}
 use Prim.Native.Nat.{ℕ, ◌+◌}
 use native.Mathlib.Nat.{add_assoc}
 use native.Mathlib.Omega.{arith}
-use lib.ListN.{get_or, set, length-set}
+use lib.ListN.{get_or, set}
 use lib.Seq.{paste}
 use Rattle.lister.proofs.PasteLaws.{one_more}
 use Rattle.lister.proofs.listings.two.Goals as goal
-
-pub bounds-text-at-2 : goal.bounds-text-at-2
-bounds-text-at-2 c =
-    let a = c.args in
-    omega (arith, length-set a.text.now (a.at + a.i) (get_or a.chars.now a.i 0), c.requires.0)
 
 pub returns : goal.returns
 returns c = λ t e n.

@@ -23,16 +23,16 @@ pub returns-then-unused : goal.returns-then-unused
 returns-then-unused c = item-unused c.args.bytes.now (λ z. omega (arith, c.if-bytes-lt2.false, z)) (λ z. omega (arith, c.if-bytes-lt2.false, z)) (sym c.unused.ensures ∙ c.if-unused.true)
 
 pub returns-in_default : goal.returns-in_default
-returns-in_default c = item-none c.args.bytes.now (λ z. omega (arith, c.if-bytes-lt2.false, z)) (λ z. omega (arith, c.if-bytes-lt2.false, z)) _ (looked-what c.look_up-looked.ensures) (opened c.in_default.in_default-own.keys2)
+returns-in_default c = item-none c.args.bytes.now (λ z. omega (arith, c.if-bytes-lt2.false, z)) (λ z. omega (arith, c.if-bytes-lt2.false, z)) _ (looked-what c.look_up-looked.ensures) c.in_default.not-Ok
 
 pub returns-then-bytes-length : goal.returns-then-bytes-length
-returns-then-bytes-length c = item-short c.args.bytes.now (λ z. omega (arith, c.if-bytes-lt2.false, z)) (λ z. omega (arith, c.if-bytes-lt2.false, z)) _ (looked-what c.look_up-looked.ensures) _ c.in-Instruction.is _ (looked-length (get_or c.args.bytes.now 0 0) (get_or c.args.bytes.now 1 0) _ _ c.look_up-looked.ensures c.in-Instruction.is) c.if-bytes-length.true
+returns-then-bytes-length c = item-short c.args.bytes.now (λ z. omega (arith, c.if-bytes-lt2.false, z)) (λ z. omega (arith, c.if-bytes-lt2.false, z)) _ (looked-what c.look_up-looked.ensures) _ c.in-Ok.is _ (looked-length (get_or c.args.bytes.now 0 0) (get_or c.args.bytes.now 1 0) _ _ c.look_up-looked.ensures c.in-Ok.is) c.if-bytes-length.true
 
 pub mov_memory-requires : goal.mov_memory-requires
-mov_memory-requires c = pairs-there _ _ _ _ (looked-length (get_or c.args.bytes.now 0 0) (get_or c.args.bytes.now 1 0) _ _ c.look_up-looked.ensures c.in-Instruction.is) c.if-bytes-length.false c.in-MovMemory.is
+mov_memory-requires c = pairs-there _ _ _ _ (looked-length (get_or c.args.bytes.now 0 0) (get_or c.args.bytes.now 1 0) _ _ c.look_up-looked.ensures c.in-Ok.is) c.if-bytes-length.false c.in-MovMemory.is
 
 pub returns-in-MovMemory : goal.returns-in-MovMemory
-returns-in-MovMemory c = c.mov_memory.ensures ∙ ap (λ (s : Shape). whole_of c.args.bytes.now s (to_of c.args.bytes.now s)) (sym c.in-MovMemory.is) ∙ item-second c.args.bytes.now (λ z. omega (arith, c.if-bytes-lt2.false, z)) (λ z. omega (arith, c.if-bytes-lt2.false, z)) _ (looked-what c.look_up-looked.ensures) _ c.in-Instruction.is _ (looked-length (get_or c.args.bytes.now 0 0) (get_or c.args.bytes.now 1 0) _ _ c.look_up-looked.ensures c.in-Instruction.is) c.if-bytes-length.false
+returns-in-MovMemory c = c.mov_memory.ensures ∙ ap (λ (s : Shape). whole_of c.args.bytes.now s (to_of c.args.bytes.now s)) (sym c.in-MovMemory.is) ∙ item-second c.args.bytes.now (λ z. omega (arith, c.if-bytes-lt2.false, z)) (λ z. omega (arith, c.if-bytes-lt2.false, z)) _ (looked-what c.look_up-looked.ensures) _ c.in-Ok.is _ (looked-length (get_or c.args.bytes.now 0 0) (get_or c.args.bytes.now 1 0) _ _ c.look_up-looked.ensures c.in-Ok.is) c.if-bytes-length.false
 
 pub returns : goal.returns
-returns c = whole-single c.args.bytes.now _ _ (looked-length (get_or c.args.bytes.now 0 0) (get_or c.args.bytes.now 1 0) _ _ c.look_up-looked.ensures c.in-Instruction.is) (opened c.in_default-shape.in_default-shape-own.keys2) c.if-bytes-length.false ∙ item-second c.args.bytes.now (λ z. omega (arith, c.if-bytes-lt2.false, z)) (λ z. omega (arith, c.if-bytes-lt2.false, z)) _ (looked-what c.look_up-looked.ensures) _ c.in-Instruction.is _ (looked-length (get_or c.args.bytes.now 0 0) (get_or c.args.bytes.now 1 0) _ _ c.look_up-looked.ensures c.in-Instruction.is) c.if-bytes-length.false
+returns c = whole-single c.args.bytes.now _ _ (looked-length (get_or c.args.bytes.now 0 0) (get_or c.args.bytes.now 1 0) _ _ c.look_up-looked.ensures c.in-Ok.is) (opened c.in_default-shape.in_default-shape-own.keys2) c.if-bytes-length.false ∙ item-second c.args.bytes.now (λ z. omega (arith, c.if-bytes-lt2.false, z)) (λ z. omega (arith, c.if-bytes-lt2.false, z)) _ (looked-what c.look_up-looked.ensures) _ c.in-Ok.is _ (looked-length (get_or c.args.bytes.now 0 0) (get_or c.args.bytes.now 1 0) _ _ c.look_up-looked.ensures c.in-Ok.is) c.if-bytes-length.false

@@ -15,7 +15,7 @@ pub overflow_add-length-2 : goal.overflow_add-length-2
 overflow_add-length-2 c = omega (arith, offset-small _ _ c.offset_length-offset.ensures, offset-small _ _ c.offset_length.ensures)
 
 pub returns-then-bytes-length : goal.returns-then-bytes-length
-returns-then-bytes-length c = whole-cut c.args.bytes.now (MovMemory c.args.m) _ (second-read c.args.bytes.now c.args.m _ _ c.offset_length-offset.ensures c.decode_second.ensures) _ (mov-size _ c.args.m c.offset_length-offset.ensures) _ c.in-Operand.is _ c.offset_length.ensures c.if-bytes-length.true
+returns-then-bytes-length c = whole-cut c.args.bytes.now (MovMemory c.args.m) _ (second-read c.args.bytes.now c.args.m _ _ c.offset_length-offset.ensures c.decode_second.ensures) _ (mov-size _ c.args.m c.offset_length-offset.ensures) _ c.in-Some.is _ c.offset_length.ensures c.if-bytes-length.true
 
 pub returns : goal.returns
-returns c = whole-there c.args.bytes.now (MovMemory c.args.m) _ (second-read c.args.bytes.now c.args.m _ _ c.offset_length-offset.ensures c.decode_second.ensures) _ (mov-size _ c.args.m c.offset_length-offset.ensures) _ c.in-Operand.is _ c.offset_length.ensures c.if-bytes-length.false
+returns c = whole-there c.args.bytes.now (MovMemory c.args.m) _ (second-read c.args.bytes.now c.args.m _ _ c.offset_length-offset.ensures c.decode_second.ensures) _ (mov-size _ c.args.m c.offset_length-offset.ensures) _ c.in-Some.is _ c.offset_length.ensures c.if-bytes-length.false

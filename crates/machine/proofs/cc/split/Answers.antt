@@ -1,7 +1,6 @@
 -- `machine::cc::split` meets its contract.
 -- Assumes nothing.
 use Prim.Native.Nat.{ℕ, ◌<◌, ◌^◌}
-use borrow.Author.Rules.{rules}
 use native.Mathlib.Omega.{arith}
 use lib.Dec.{lit<}
 use Rattle.ground_rules.proofs.BitLaws.{field_lt}

@@ -1,7 +1,6 @@
 -- `machine::psw::with` meets its contract.
 -- Assumes nothing.
 use Prim.Native.Nat.{◌<◌}
-use borrow.Author.Rules.{rules}
 use borrow.Author.Tests.{lt-ltb, le-ltb, le-leb}
 use native.Mathlib.Nat.{mod-eq_of_lt}
 use native.Mathlib.Omega.{arith}

@@ -1,24 +1,25 @@
 -- `notation::mnemonics::is_jump` meets its contract.
 -- Assumes nothing.
+use mathlib.Core.Bool.{false}
+use mathlib.Core.Path.{◌≡◌, refl}
+use Prim.Native.Nat.{ℕ}
+use Rattle.instruction_rules.specs.declared.Work.{Work}
+use Rattle.instruction_rules.specs.declared.Work.TheVariants.{Mov, Add, Or, And, Not}
 use Rattle.listing_rules.specs.Mnemonics.{is_jump}
 use Rattle.notation.proofs.mnemonics.is_jump.Goals as goal
 
-pub returns-in-Mov : goal.returns-in-Mov
+-- only an addition is
+other-work : (work : Work) (rrr : ℕ) → (work ≡ Add → ⊥) → false ≡ is_jump work rrr
 unfolding is_jump
-returns-in-Mov c = simp (c.in-Mov.is, c.in-Mov.in-Mov-own.keys1)
+other-work Mov rrr ne = refl
+other-work Add rrr ne = absurd (ne refl)
+other-work Or rrr ne = refl
+other-work And rrr ne = refl
+other-work Not rrr ne = refl
 
 pub returns-in-Add : goal.returns-in-Add
 unfolding is_jump
-returns-in-Add c = simp (c.in-Add.is, c.in-Add.in-Add-own.keys2)
+returns-in-Add c = rw c.in-Add.is
 
-pub returns-in-Or : goal.returns-in-Or
-unfolding is_jump
-returns-in-Or c = simp (c.in-Or.is, c.in-Or.in-Or-own.keys3)
-
-pub returns-in-And : goal.returns-in-And
-unfolding is_jump
-returns-in-And c = simp (c.in-And.is, c.in-And.in-And-own.keys4)
-
-pub returns-in-Not : goal.returns-in-Not
-unfolding is_jump
-returns-in-Not c = simp (c.in-Not.is, c.in-Not.in-Not-own.keys5)
+pub returns-in_default : goal.returns-in_default
+returns-in_default c = other-work c.args.work c.args.rrr c.in_default.not-Add

@@ -45,7 +45,7 @@ returns-in-Register c = lone _ held-zero c.single_stem.ensures held-zero held-ze
 
 pub returns-in-JumpRegister : goal.returns-in-JumpRegister
 unfolding mnemonic_of held_in held_by
-returns-in-JumpRegister c = led _ c.long_mark-in-JumpRegister.ensures c.either.ensures held-zero held-zero ∙ rw c.in-JumpRegister.is
+returns-in-JumpRegister c = led _ c.long_mark-in-JumpRegister.ensures c.zero_stem.ensures held-zero held-zero ∙ rw c.in-JumpRegister.is
 
 pub returns-in-RegisterMemory : goal.returns-in-RegisterMemory
 unfolding mnemonic_of held_in held_by
@@ -65,7 +65,7 @@ returns-in-MemoryAlone c = four _ held-zero c.single_stem-in-MemoryAlone.ensures
 
 pub returns-in-JumpMemory : goal.returns-in-JumpMemory
 unfolding mnemonic_of held_in held_by
-returns-in-JumpMemory c = four _ c.long_mark-in-JumpMemory.ensures c.either-in-JumpMemory.ensures c.byte_mark-in-JumpMemory.ensures held-zero ∙ simp (append-nil, c.in-JumpMemory.is)
+returns-in-JumpMemory c = four _ c.long_mark-in-JumpMemory.ensures c.zero_stem-in-JumpMemory.ensures c.byte_mark-in-JumpMemory.ensures held-zero ∙ simp (append-nil, c.in-JumpMemory.is)
 
 pub returns-in-Lpd : goal.returns-in-Lpd
 unfolding mnemonic_of held_in4 held_in held_by
@@ -91,14 +91,26 @@ pub returns-in-Call : goal.returns-in-Call
 unfolding mnemonic_of held_in held_by
 returns-in-Call c = four _ c.long_mark-in-Call.ensures refl held-zero held-zero ∙ simp (append-nil, c.in-Call.is)
 
-pub returns-in-JumpMasked : goal.returns-in-JumpMasked
+pub returns-then-equal : goal.returns-then-equal
 unfolding mnemonic_of held_in held_by
-returns-in-JumpMasked c = led _ c.long_mark-in-JumpMasked.ensures c.either-in-JumpMasked.ensures held-zero held-zero ∙ rw c.in-JumpMasked.is
+returns-then-equal c = led _ c.long_mark-in-JumpMasked.ensures refl held-zero held-zero ∙ simp (c.in-JumpMasked.is, c.if-equal.true)
 
-pub returns-in-JumpBit : goal.returns-in-JumpBit
+pub returns-else-equal : goal.returns-else-equal
 unfolding mnemonic_of held_in held_by
-returns-in-JumpBit c = led _ c.long_mark-in-JumpBit.ensures c.either-in-JumpBit.ensures held-zero held-zero ∙ rw c.in-JumpBit.is
+returns-else-equal c = led _ c.long_mark-in-JumpMasked.ensures refl held-zero held-zero ∙ simp (c.in-JumpMasked.is, c.if-equal.false)
 
-pub returns-in-Bit : goal.returns-in-Bit
+pub returns-then-set : goal.returns-then-set
 unfolding mnemonic_of held_in held_by
-returns-in-Bit c = lone _ held-zero c.either-in-Bit.ensures held-zero held-zero ∙ rw c.in-Bit.is
+returns-then-set c = led _ c.long_mark-in-JumpBit.ensures refl held-zero held-zero ∙ simp (c.in-JumpBit.is, c.if-set.true)
+
+pub returns-else-set : goal.returns-else-set
+unfolding mnemonic_of held_in held_by
+returns-else-set c = led _ c.long_mark-in-JumpBit.ensures refl held-zero held-zero ∙ simp (c.in-JumpBit.is, c.if-set.false)
+
+pub returns-then-on : goal.returns-then-on
+unfolding mnemonic_of held_in held_by
+returns-then-on c = lone _ held-zero refl held-zero held-zero ∙ simp (c.in-Bit.is, c.if-on.true)
+
+pub returns-else-on : goal.returns-else-on
+unfolding mnemonic_of held_in held_by
+returns-else-on c = lone _ held-zero refl held-zero held-zero ∙ simp (c.in-Bit.is, c.if-on.false)

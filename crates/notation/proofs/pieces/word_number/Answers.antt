@@ -9,33 +9,6 @@ use Rattle.notation.proofs.PieceLaws.{held-packed}
 use native.Mathlib.Omega.{arith}
 use Rattle.notation.proofs.pieces.word_number.Goals as goal
 
-pub overflow_add-result : goal.overflow_add-result
-overflow_add-result c = omega arith
-
-pub overflow_mul-result-2 : goal.overflow_mul-result-2
-overflow_mul-result-2 c = omega arith
-
-pub overflow_add-result-2 : goal.overflow_add-result-2
-overflow_add-result-2 c = omega arith
-
-pub overflow_mul-result-3 : goal.overflow_mul-result-3
-overflow_mul-result-3 c = omega arith
-
-pub overflow_add-result-3 : goal.overflow_add-result-3
-overflow_add-result-3 c = omega arith
-
-pub overflow_mul-result-4 : goal.overflow_mul-result-4
-overflow_mul-result-4 c = omega arith
-
-pub overflow_add-result-4 : goal.overflow_add-result-4
-overflow_add-result-4 c = omega arith
-
-pub overflow_mul-result-5 : goal.overflow_mul-result-5
-overflow_mul-result-5 c = omega arith
-
-pub overflow_add-result-5 : goal.overflow_add-result-5
-overflow_add-result-5 c = omega arith
-
 pub returns : goal.returns
 unfolding held_in number_text hex_digits
 returns c =

@@ -6,6 +6,7 @@ use mathlib.Core.Bool.{Bool, not, ◌&&◌}
 use mathlib.Core.Path.{◌≡◌, refl, sym, ap, ap₂, ◌∙◌}
 use native.Mathlib.Omega.{arith}
 use Rattle.instruction_rules.specs.Execute.{Executed, execute_of}
+use Rattle.ground_rules.proofs.RefusalLaws.{number-positive}
 use Rattle.ground_rules.specs.Updates.{holding}
 use Rattle.ground_rules.specs.declared.Channel.{Channel}
 use Rattle.ground_rules.specs.Buffers.{Buffers, buffers}
@@ -20,15 +21,15 @@ as_it_was busy c r m from stop e = ap (λ (x : Channel). burst_from (executes bu
 pub loop-done-init : goal.loop-done-init
 loop-done-init c = (c.requires, refl, refl, refl)
 
-pub returns-then-e-ne0 : goal.returns-then-e-ne0
-returns-then-e-ne0 c =
+pub returns-in-Err : goal.returns-in-Err
+returns-in-Err c =
     let l = c.loop-done in
     let a = c.args in
     let m = buffers l.sys l.io in
-    let e = c.execute-e.ensures.left in
+    let e = c.in-Err.ensures.left in
     ap (λ (o : Executed). burst o.number l.done l.mine o.memory) e
     ∙ sym
-    (burst-stops (executes a.busy) executes_on l.mine m l.done (a.stop - l.done) (omega (arith, c.loop-done-test.true)) (λ z. c.if-e-ne0.true (ap (λ (o : Executed). o.number) e ∙ z)))
+    (burst-stops (executes a.busy) executes_on l.mine m l.done (a.stop - l.done) (omega (arith, c.loop-done-test.true)) (λ z. number-positive _ (ap (λ (o : Executed). o.number) e ∙ z)))
     ∙ l.invariant.3
     ∙ as_it_was a.busy a.c c.holds-mine.result (buffers a.sys.now a.io.now) a.from a.stop c.holds-mine.ensures
 
@@ -40,10 +41,10 @@ returns-then-not-is_running-transferring c =
     let l = c.loop-done in
     let a = c.args in
     let m = buffers l.sys l.io in
-    let e = c.execute-e.ensures.left in
+    let e = c.in-Ok.ensures.left in
     ap (λ (o : Executed). burst 0 (l.done + 1) o.channel o.memory) e
     ∙ sym
-    (burst-ends (executes a.busy) executes_on l.mine m l.done (a.stop - l.done) (omega (arith, c.loop-done-test.true)) (sym (ap (λ (o : Executed). o.number) e) ∙ c.if-e-ne0.false)
+    (burst-ends (executes a.busy) executes_on l.mine m l.done (a.stop - l.done) (omega (arith, c.loop-done-test.true)) (sym (ap (λ (o : Executed). o.number) e))
     (ap (λ (o : Executed). executes_on l.mine o.channel) (sym e) ∙ sym (ap₂ (λ (x y : Bool). x && not y) c.is_running.ensures c.transferring.ensures) ∙ not-true _ c.if-not-is_running-transferring.true-raw))
     ∙ l.invariant.3
     ∙ as_it_was a.busy a.c c.holds-mine.result (buffers a.sys.now a.io.now) a.from a.stop c.holds-mine.ensures
@@ -56,15 +57,15 @@ loop-done-preserved c =
     let l = c.loop-done in
     let a = c.args in
     let m = buffers l.sys l.io in
-    let e = c.execute-e.ensures.left in
+    let e = c.in-Ok.ensures.left in
     let left : a.stop - (l.done + 1) ≡ a.stop - l.done - 1 = omega arith in (
       omega (arith, c.loop-done-test.true),
-      c.execute-e.auto.sys ∙ l.invariant.1,
-      c.execute-e.auto.io ∙ l.invariant.2,
+      c.execute.auto.sys ∙ l.invariant.1,
+      c.execute.auto.io ∙ l.invariant.2,
       ap (λ (o : Executed). burst_from (executes a.busy) executes_on (a.stop - (l.done + 1)) o.channel o.memory (l.done + 1)) e
           ∙ ap (λ (n : ℕ). burst_from (executes a.busy) executes_on n (execute_of l.mine a.busy m).channel (execute_of l.mine a.busy m).memory (l.done + 1)) left
           ∙ sym
-          (burst-goes (executes a.busy) executes_on l.mine m l.done (a.stop - l.done) (omega (arith, c.loop-done-test.true)) (sym (ap (λ (o : Executed). o.number) e) ∙ c.if-e-ne0.false)
+          (burst-goes (executes a.busy) executes_on l.mine m l.done (a.stop - l.done) (omega (arith, c.loop-done-test.true)) (sym (ap (λ (o : Executed). o.number) e))
           (ap (λ (o : Executed). executes_on l.mine o.channel) (sym e) ∙ sym (ap₂ (λ (x y : Bool). x && not y) c.is_running.ensures c.transferring.ensures) ∙ not-false _ c.if-not-is_running-transferring.false-raw))
           ∙ l.invariant.3,
     )

@@ -5,7 +5,12 @@ use mathlib.Core.Path.{refl, sym, ap, ◌∙◌}
 use native.Mathlib.Nat.{sub-zero}
 use native.Mathlib.Omega.{arith}
 use Rattle.ground_rules.specs.Buffers.{buffers}
+use Rattle.std.proofs.Common.{Option}
+use Rattle.ground_rules.proofs.RefusalLaws.{number-positive}
+use Rattle.ground_rules.specs.declared.Refusal.{Refusal}
+use Rattle.run_rules.specs.Run.{ran}
 use Rattle.panel.specs.Bursts.{burst, alone_step, always, alone_from, ran_by, alone_run}
+use Rattle.run_rules.specs.Run.{stop_number}
 use Rattle.panel.proofs.BurstLaws.{burst-limit}
 use Rattle.panel.proofs.AloneLaws.{rest-stopped, rest-going}
 use Rattle.panel.proofs.bursts.rounds.Goals as goal
@@ -19,15 +24,16 @@ turn-r-requires c = c.loop-done-test.true
 pub overflow_cast-result : goal.overflow_cast-result
 overflow_cast-result c = omega (arith, c.turn-r.ensures.most, c.ranges.limit.fits)
 
-pub returns-then-r-ne0 : goal.returns-then-r-ne0
+pub returns-in-Some : goal.returns-in-Some
 unfolding alone_run
-returns-then-r-ne0 c =
+returns-in-Some c =
     let a = c.args in
     let r = c.turn-r.result in
-    sym (rest-stopped (burst r.number r.steps r.channel _) a.busy a.lines a.second a.limit c.if-r-ne0.true) ∙ c.turn-r.ensures.rest ∙ c.loop-done.invariant.3
+    ap (λ (x : Option Refusal). ran (stop_number x) r.steps (buffers c.turn-r.new.sys c.turn-r.new.io)) (sym c.in-Some.is)
+    ∙ sym (rest-stopped (burst (stop_number r.stopped) r.steps r.channel _) a.busy a.lines a.second a.limit (λ z. number-positive _ (sym (ap stop_number c.in-Some.is) ∙ z))) ∙ c.turn-r.ensures.rest ∙ c.loop-done.invariant.3
 
 pub loop-done-smaller : goal.loop-done-smaller
-loop-done-smaller c = omega (arith, c.turn-r.ensures.further c.if-r-ne0.false, c.turn-r.ensures.most)
+loop-done-smaller c = omega (arith, c.turn-r.ensures.further (ap stop_number c.in_default.is), c.turn-r.ensures.most)
 
 pub loop-done-preserved : goal.loop-done-preserved
 loop-done-preserved c =
@@ -38,7 +44,7 @@ loop-done-preserved c =
       e.most,
       c.turn-r.auto.sys ∙ l.invariant.1,
       c.turn-r.auto.io ∙ l.invariant.2,
-      sym (rest-going (burst r.number r.steps r.channel _) a.busy a.lines a.second a.limit c.if-r-ne0.false) ∙ e.rest ∙ l.invariant.3,
+      sym (rest-going (burst (stop_number r.stopped) r.steps r.channel _) a.busy a.lines a.second a.limit (ap stop_number c.in_default.is)) ∙ e.rest ∙ l.invariant.3,
     )
 
 pub overflow_cast-result-2 : goal.overflow_cast-result-2

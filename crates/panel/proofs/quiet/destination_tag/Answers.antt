@@ -1,8 +1,12 @@
--- `panel::quiet::destination_tag` meets its contract.
+-- `quiet::destination_tag` meets its contract.
 -- Assumes nothing.
 use Rattle.panel.specs.Bursts.{destination_tag}
 use Rattle.panel.proofs.quiet.destination_tag.Goals as goal
 
-pub returns : goal.returns
+pub returns-then-c : goal.returns-then-c
 unfolding destination_tag
-returns c = c.either.ensures
+returns-then-c c = rw c.if-c.true
+
+pub returns-else-c : goal.returns-else-c
+unfolding destination_tag
+returns-else-c c = rw c.if-c.false

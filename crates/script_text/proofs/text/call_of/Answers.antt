@@ -11,4 +11,4 @@ returns-then-first_byte-eq35 c = simp (eq-eqb _ _ (sym c.first_byte.ensures ∙ 
 
 pub returns : goal.returns
 unfolding call_of
-returns c = simp (c.call_from.ensures, c.words_of.ensures, ne_eqb _ _ (λ z. c.if-first_byte-eq35.false (c.first_byte.ensures ∙ z)))
+returns c = simp (c.unwrap_or.ensures, c.call_from.ensures, c.words_of.ensures, ne_eqb _ _ (λ z. c.if-first_byte-eq35.false (c.first_byte.ensures ∙ z)))

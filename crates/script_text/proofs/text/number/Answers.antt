@@ -1,62 +1,64 @@
--- `script_text::text::number` meets its contract. The loop's invariant: reading the rest gives the whole number.
+-- `script_text::text::number` meets its contract.
 -- Assumes nothing.
-use Prim.Native.Nat.{ℕ, ◌+◌, ◌*◌}
-use lib.ListN.{length, drop}
-use mathlib.Core.Path.{refl, sym, ap, ◌∙◌}
-use native.Mathlib.Omega.{arith}
-use borrow.Author.Tests.{lt-leb, le-leb, eq-eqb, ne_eqb}
-use lib.Dec.{lit<}
-use Rattle.script_text.specs.Text.{value_of, numeral_of}
-use Rattle.script_text.proofs.TextLaws.{value-end, value-next, value-stop, number_fits, number-grows}
+use Rattle.std.proofs.Common.{◌≡◌, ◌+◌, ◌*◌, ◌<◌, ◌∙◌, ℕ, sym, ap, length, drop, get_or, Some, None, true, false, arith}
+use borrow.Author.Tests.{lt-leb, le-leb, lt-ltb}
+use lib.Dec.{eqb}
+use Rattle.script_text.specs.Text.{no_number, value_of, numeral_of, digit_told}
+use Rattle.script_text.proofs.TextLaws.{value-end, value-next, value-stop, number_fits, number_room, number-grows, some_value, no_value}
 use Rattle.script_text.proofs.text.number.Goals as goal
+use Rattle.script_text.proofs.text.number.Goals.{then-is_empty-via-then-is_empty, then-is_empty-via-else-is_empty+then-w-gt8}
 
-pub returns-then-w-eq0 : goal.returns-then-w-eq0
+pub returns-then-is_empty : goal.returns-then-is_empty
 unfolding numeral_of
-returns-then-w-eq0 c = simp (eq-eqb _ _ c.if-w-eq0.true)
+returns-then-is_empty c = elim c.then-is_empty.branch [
+  | then-is_empty-via-then-is_empty w ↦
+      let none : eqb (length c.args.w.now) 0 ≡ true = sym c.is_empty.ensures ∙ w.if-is_empty.true in
+      rw none
+  | then-is_empty-via-else-is_empty+then-w-gt8 w ↦
+      let some : eqb (length c.args.w.now) 0 ≡ false = sym c.is_empty.ensures ∙ w.if-is_empty.false in
+      rw (some, lt-leb (length c.args.w.now) 8 w.if-w-gt8.true)
+]
 
-pub returns-then-w-gt8 : goal.returns-then-w-gt8
+pub overflow_mul-number : goal.overflow_mul-number
+overflow_mul-number c = let l = c.loop-byte in omega (arith, number_room l.number l.byte-index l.invariant.fits (omega arith))
+
+pub overflow_add-number : goal.overflow_add-number
+overflow_add-number c =
+    let l = c.loop-byte in
+    let b = get_or c.args.w.now l.byte-index 0 in
+    let is : digit_told b ≡ Some c.in_ok-number.field-0 = sym c.digit.ensures ∙ c.in_ok-number.was in
+    let value = some_value b c.in_ok-number.field-0 is in
+    omega (arith, number_room l.number l.byte-index l.invariant.fits (omega arith), value.0, value.1)
+
+pub returns-in_err-number : goal.returns-in_err-number
 unfolding numeral_of
-returns-then-w-gt8 c = simp (lt-leb _ _ c.if-w-gt8.true, ne_eqb _ _ c.if-w-eq0.false)
-
-pub loop-i-init : goal.loop-i-init
-loop-i-init c = (omega arith, lit< tt, refl)
-
-pub bounds-w-i : goal.bounds-w-i
-bounds-w-i c = omega arith
-
-pub returns-then-d-ge16 : goal.returns-then-d-ge16
-unfolding numeral_of
-returns-then-d-ge16 c =
-    let l = c.loop-i in
+returns-in_err-number c =
+    let l = c.loop-byte in
     let w = c.args.w.now in
-    sym (value-stop l.n w l.i c.loop-i-test.true (rw c.digit-d.ensures at c.if-d-ge16.true)) ∙ l.invariant.2 ∙ rw (ne_eqb (length w) 0 c.if-w-eq0.false, le-leb (length w) 8 c.if-w-gt8.false)
+    let b = get_or w l.byte-index 0 in
+    let none : digit_told b ≡ None = sym c.digit.ensures ∙ c.in_err-number.was in
+    let stop : value_of 0 w ≡ no_number = sym l.invariant.whole ∙ value-stop l.number w l.byte-index (omega arith) (no_value b none) in
+    let some : eqb (length w) 0 ≡ false = sym c.is_empty.ensures ∙ c.if-is_empty.false in
+    c.from_residual.ensures ∙ rw (some, le-leb (length w) 8 (omega arith), stop)
 
-pub overflow_mul-n : goal.overflow_mul-n
-overflow_mul-n c = let l = c.loop-i in omega (arith, number_fits l.n l.i l.invariant.1 (omega arith))
-
-pub overflow_cast-n : goal.overflow_cast-n
-overflow_cast-n c = omega arith
-
-pub overflow_add-n : goal.overflow_add-n
-overflow_add-n c = let l = c.loop-i in omega (arith, number_fits l.n l.i l.invariant.1 (omega arith))
-
-pub overflow_add-i : goal.overflow_add-i
-overflow_add-i c = omega arith
-
-pub loop-i-smaller : goal.loop-i-smaller
-loop-i-smaller c = omega arith
-
-pub loop-i-preserved : goal.loop-i-preserved
-loop-i-preserved c =
-    let l = c.loop-i in
+pub loop-byte-preserved : goal.loop-byte-preserved
+loop-byte-preserved c =
+    let l = c.loop-byte in
     let w = c.args.w.now in
-    let e = c.digit-d.ensures in
-    let small = rw e at c.if-d-ge16.false in
-    (omega arith, number-grows l.n l.i c.digit-d.result l.invariant.1 c.if-d-ge16.false, ap (λ (d : ℕ). value_of (l.n * 16 + d) (drop (l.i + 1) w)) e ∙ sym (value-next l.n w l.i c.loop-i-test.true small) ∙ l.invariant.2)
+    let b = get_or w l.byte-index 0 in
+    let is : digit_told b ≡ Some c.in_ok-number.field-0 = sym c.digit.ensures ∙ c.in_ok-number.was in
+    let value = some_value b c.in_ok-number.field-0 is in
+    record {
+      fits = number-grows l.number l.byte-index c.in_ok-number.field-0 l.invariant.fits (omega (arith, value.0, value.1));
+      whole = ap (λ (d : ℕ). value_of (l.number * 16 + d) (drop (l.byte-index + 1) w)) (sym value.1) ∙ sym (value-next l.number w l.byte-index (omega arith) value.0) ∙ l.invariant.whole;
+    }
 
 pub returns : goal.returns
 unfolding numeral_of
 returns c =
-    let l = c.loop-i in
+    let l = c.loop-byte in
     let w = c.args.w.now in
-    sym (value-end l.n w l.i c.loop-i-test.false) ∙ l.invariant.2 ∙ rw (ne_eqb (length w) 0 c.if-w-eq0.false, le-leb (length w) 8 c.if-w-gt8.false)
+    let all : value_of 0 w ≡ l.number = sym l.invariant.whole ∙ value-end l.number w l.byte-index (omega arith) in
+    let some : eqb (length w) 0 ≡ false = sym c.is_empty.ensures ∙ c.if-is_empty.false in
+    let fits : l.number < no_number = number_fits l.number l.byte-index l.invariant.fits (omega arith) in
+    rw (some, le-leb (length w) 8 (omega arith), all, lt-ltb l.number no_number fits)

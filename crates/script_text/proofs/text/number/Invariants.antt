@@ -1,11 +1,9 @@
-use Prim.Native.Nat.{◌-◌, ◌^◌, ◌≤◌, ◌<◌}
-use lib.ListN.{length, drop}
+-- The loop's invariant: reading the rest gives the whole number.
+use Prim.Native.Nat.{◌^◌, ◌<◌}
+use lib.ListN.{drop}
 use mathlib.Core.Path.{◌≡◌}
 use Rattle.script_text.specs.Text.{value_of}
 use Rattle.script_text.proofs.text.number.Given as goal
 
-abbrev pub invariant-loop-i : goal.invariant-loop-i
-invariant-loop-i l = (l.i ≤ length l.w) × (l.n < 16 ^ l.i) × (value_of l.n (drop l.i l.w) ≡ value_of 0 l.w)
-
-abbrev pub decreases-loop-i : goal.decreases-loop-i
-decreases-loop-i l = length l.w - l.i
+abbrev pub invariant-loop-byte : goal.invariant-loop-byte
+invariant-loop-byte l = record { fits : l.number < 16 ^ l.byte-index; whole : value_of l.number (drop l.byte-index l.w) ≡ value_of 0 l.w }

@@ -1,11 +1,23 @@
 -- `state_bytes::layout::put_front` meets its contract.
 -- Assumes nothing.
+use mathlib.Core.List.{List}
 use mathlib.Core.Path.{◌∙◌}
+use mir.Val.{Val}
+use denote.Builtin.{u8}
+use denote.Shadow.{shadow}
+use Rattle.std.proofs.Common.{ℕ, Option, None, Some}
+use Rattle.std.specs.contracts.option.Option.{the_field, the_type}
+use Rattle.ground_rules.proofs.HoldingLaws.{HeldFits}
 use native.Mathlib.Omega.{arith}
-use Rattle.state_rules.proofs.HeldLaws.{held_small, good-fits}
+use Rattle.state_rules.proofs.HeldLaws.{held_small}
 use Rattle.state_rules.proofs.GroupLaws.{front-put}
 use Rattle.state_bytes.specs.Puts.{front_bytes}
 use Rattle.state_bytes.proofs.layout.put_front.Goals as goal
+
+-- what is held is a byte
+good-fits : (h : Option ℕ) (vs : List Val) → shadow ((the_field u8).row.own_val ((the_type u8).to h) vs) → HeldFits h
+good-fits None vs g = tt
+good-fits (Some byte) vs g = omega (arith, g.1.1.1.1.0)
 
 pub returns : goal.returns
 unfolding front_bytes

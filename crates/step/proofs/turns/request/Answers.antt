@@ -1,12 +1,17 @@
--- `step::turns/request` meets its contract.
+-- `turns::request` meets its contract.
 -- Assumes nothing.
+use Rattle.std.proofs.Common.{Bool, true, false, ◌≡◌, ℕ, refl, ap, ◌∙◌}
+use package.mir.Val.{bool_byte}
+use Rattle.ground_rules.specs.Bits.{bit_of}
+use Rattle.ground_rules.specs.Choice.{pick}
 use Rattle.turn_rules.specs.Choosing.{requested}
 use Rattle.step.proofs.turns.request.Goals as goal
 
-pub returns-then-second : goal.returns-then-second
-unfolding requested
-returns-then-second c = simp (c.bit.ensures, c.if-second.true)
+-- a truth value as a number
+as_number : (b : Bool) → bool_byte b ≡ pick b 1 0
+as_number true = refl
+as_number false = refl
 
-pub returns-else-second : goal.returns-else-second
+pub returns : goal.returns
 unfolding requested
-returns-else-second c = simp (c.bit-else-second.ensures, c.if-second.false)
+returns c = c.bit.ensures ∙ ap (bit_of c.args.lines) (as_number c.args.second)

@@ -8,23 +8,33 @@ use Rattle.ground_rules.specs.Values.{onward}
 use Rattle.instruction_rules.proofs.LengthRule.{pair-rule}
 use Rattle.instruction_rules.specs.Execute.{decoded_at}
 use Rattle.instruction_rules.specs.Operands.{byte_here, bytes_at}
-use Rattle.instruction_rules.specs.declared.Decoded.TheVariants.{Instruction, NoInstruction, ControlUsed}
+use Rattle.instruction_rules.specs.Reading.{decoded_number}
+use Rattle.instruction_rules.specs.declared.Unread.{Unread}
+use Rattle.instruction_rules.specs.declared.Unread.TheVariants.{NoInstruction, ControlUsed}
 use Rattle.instruction_rules.specs.declared.Looked.{Looked}
 use Rattle.touches.specs.Accesses.{behind_pair, reads_behind}
-use Rattle.touches.specs.Tales.{Tale, tale, untold, told_on, all_as, foreseen_at, walked}
+use Rattle.touches.specs.Tales.{Tale, tale, untold, told_on, all_as, foreseen, foreseen_at, foretold, walked}
+use Rattle.instruction_rules.specs.Execute.{execute_number}
+use Rattle.touch_rules.specs.Touches.{told_by_instruction}
+use Rattle.touches.proofs.TaleLaws.{told-from}
+use Rattle.std.proofs.Common.{rules, Ok, Err, eqb}
 use Rattle.touches.proofs.InstructionLaws.{pair-beyond, pair-judged, pair-shaped}
 use Rattle.touches.proofs.instructions.instruction.Goals as goal
 
-pub span-t-requires : goal.span-t-requires
-span-t-requires c = rw c.none.ensures (omega arith)
+-- what is no instruction has a number other than 0
+judged : (unread : Unread) → eqb (decoded_number (Err unread)) 0 ≡ false
+judged NoInstruction = refl
+judged ControlUsed = refl
 
-pub returns-then-t : goal.returns-then-t
-returns-then-t c =
+pub returns-then-teller : goal.returns-then-teller
+returns-then-teller c =
     let a = c.args in
     let m = buffers a.sys.now a.io.now in
-    let told : tale c.span-t.new.places c.span-t.result ≡ told_on m (all_as false (bytes_at a.c.tp 2)) (untold a.places.now)
-    = simp c.none.ensures at c.span-t.ensures.told in
-    rw c.seen.ensures (ap (foreseen_at 2) told ∙ pair-beyond m a.c a.busy a.places.now (sym (ap (λ (y : Tale). y.beyond) told) ∙ c.if-t.true))
+    let told : tale c.span.new.self ≡ told_on m (all_as false (bytes_at a.c.tp 2)) (untold a.places.now)
+    = told-from m _ _ c.new-teller.result c.span.new.self c.new-teller.ensures.lent c.new-teller.ensures.told c.span.ensures.told in
+    let whole : foreseen c.seen.result c.span.new.self.places.now ≡ foretold (execute_number m a.c a.busy) (told_by_instruction m a.c a.busy) a.places.now
+    = rw c.seen.ensures (ap (foreseen_at 2) told ∙ pair-beyond m a.c a.busy a.places.now (sym (ap (λ (y : Tale). y.beyond) told) ∙ c.if-teller.true)) in
+    search rules
 
 pub shaped-requires : goal.shaped-requires
 unfolding decoded_at
@@ -32,40 +42,35 @@ shaped-requires c =
     let a = c.args in
     let m = buffers a.sys.now a.io.now in
     let what : c.look-looked.result.decoded ≡ decoded_at m a.c.tp = ap (λ (l : Looked). l.decoded) c.look-looked.ensures in (
-      c.if-t.false,
-      ap (λ (l : Looked). l.length) c.look-looked.ensures ∙ sym (pair-rule (byte_here m a.c.tp) (byte_here m (onward a.c.tp 1)) _ (sym what ∙ c.in-Instruction.is)),
-      omega (arith, rw c.none.ensures at c.span-t.ensures.few),
+      c.if-teller.false,
+      ap (λ (l : Looked). l.length) c.look-looked.ensures ∙ sym (pair-rule (byte_here m a.c.tp) (byte_here m (onward a.c.tp 1)) _ (sym what ∙ c.in-Ok.is)),
+      omega (arith, c.span.ensures.few, ap (λ (y : Tale). y.count) c.new-teller.ensures.told),
+      c.span.ensures.lent ∙ c.new-teller.ensures.lent,
     )
 
-pub returns-in-Instruction : goal.returns-in-Instruction
-returns-in-Instruction c =
+pub returns-in-Ok : goal.returns-in-Ok
+returns-in-Ok c =
     let a = c.args in
     let m = buffers a.sys.now a.io.now in
-    let told : tale c.span-t.new.places c.span-t.result ≡ told_on m (all_as false (bytes_at a.c.tp 2)) (untold a.places.now)
-    = simp c.none.ensures at c.span-t.ensures.told in
+    let told : tale c.span.new.self ≡ told_on m (all_as false (bytes_at a.c.tp 2)) (untold a.places.now)
+    = told-from m _ _ c.new-teller.result c.span.new.self c.new-teller.ensures.lent c.new-teller.ensures.told c.span.ensures.told in
     let what : decoded_at m a.c.tp ≡ c.look-looked.result.decoded = sym (ap (λ (l : Looked). l.decoded) c.look-looked.ensures) in
-    c.shaped.ensures
-    ∙ ap (walked m (behind_pair (Instruction _) m a.c a.busy) (reads_behind (Instruction _) m a.c a.busy)) told
-    ∙ pair-shaped m a.c a.busy a.places.now (Instruction _) (what ∙ c.in-Instruction.is) refl (sym (ap (λ (y : Tale). y.beyond) told) ∙ c.if-t.false)
+    let whole : foreseen c.shaped.result c.shaped.new.teller.places.now ≡ foretold (execute_number m a.c a.busy) (told_by_instruction m a.c a.busy) a.places.now
+    = c.shaped.ensures.seen
+    ∙ ap (walked m (behind_pair (Ok _) m a.c a.busy) (reads_behind (Ok _) m a.c a.busy)) told
+    ∙ pair-shaped m a.c a.busy a.places.now (Ok _) (what ∙ c.in-Ok.is) refl (sym (ap (λ (y : Tale). y.beyond) told) ∙ c.if-teller.false) in
+    search rules
 
-pub returns-in-NoInstruction : goal.returns-in-NoInstruction
-returns-in-NoInstruction c =
+pub returns-in-Err : goal.returns-in-Err
+returns-in-Err c =
     let a = c.args in
     let m = buffers a.sys.now a.io.now in
-    let told : tale c.span-t.new.places c.span-t.result ≡ told_on m (all_as false (bytes_at a.c.tp 2)) (untold a.places.now)
-    = simp c.none.ensures at c.span-t.ensures.told in
+    let told : tale c.span.new.self ≡ told_on m (all_as false (bytes_at a.c.tp 2)) (untold a.places.now)
+    = told-from m _ _ c.new-teller.result c.span.new.self c.new-teller.ensures.lent c.new-teller.ensures.told c.span.ensures.told in
     let what : decoded_at m a.c.tp ≡ c.look-looked.result.decoded = sym (ap (λ (l : Looked). l.decoded) c.look-looked.ensures) in
-    rw c.seen-in-NoInstruction.ensures
-    (ap (foreseen_at 3) told
-    ∙ pair-judged m a.c a.busy a.places.now NoInstruction (what ∙ c.in-NoInstruction.is) refl (sym (ap (λ (y : Tale). y.beyond) told) ∙ c.if-t.false))
-
-pub returns-in-ControlUsed : goal.returns-in-ControlUsed
-returns-in-ControlUsed c =
-    let a = c.args in
-    let m = buffers a.sys.now a.io.now in
-    let told : tale c.span-t.new.places c.span-t.result ≡ told_on m (all_as false (bytes_at a.c.tp 2)) (untold a.places.now)
-    = simp c.none.ensures at c.span-t.ensures.told in
-    let what : decoded_at m a.c.tp ≡ c.look-looked.result.decoded = sym (ap (λ (l : Looked). l.decoded) c.look-looked.ensures) in
-    rw c.seen-in-ControlUsed.ensures
-    (ap (foreseen_at 4) told
-    ∙ pair-judged m a.c a.busy a.places.now ControlUsed (what ∙ c.in-ControlUsed.is) refl (sym (ap (λ (y : Tale). y.beyond) told) ∙ c.if-t.false))
+    let unread = c.in-Err.unread in
+    let whole : foreseen c.seen-in-Err.result c.span.new.self.places.now ≡ foretold (execute_number m a.c a.busy) (told_by_instruction m a.c a.busy) a.places.now
+    = rw (c.seen-in-Err.ensures, c.number.ensures, c.from.ensures)
+    (ap (foreseen_at (decoded_number (Err unread))) told
+    ∙ pair-judged m a.c a.busy a.places.now (Err unread) (what ∙ c.in-Err.is) (judged unread) (sym (ap (λ (y : Tale). y.beyond) told) ∙ c.if-teller.false)) in
+    search rules

@@ -1,7 +1,0 @@
--- `decode_shapes::rows::tsl` meets its contract: its tests are the columns of its row.
--- Assumes nothing.
-use borrow.Author.Rules.{rules}
-use Rattle.decode_shapes.proofs.rows.tsl.Goals as goal
-
-pub returns : goal.returns
-returns c = simp c.answer.ensures
