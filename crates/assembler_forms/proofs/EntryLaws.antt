@@ -14,22 +14,23 @@ use Rattle.listing_rules.specs.Characters.{same_text}
 use Rattle.listing_rules.specs.Entries.{OperandKind, Entry, entries}
 use Rattle.listing_rules.specs.Entries.OperandKind.{'R, 'G, 'P, 'M, 'byte, 'word, 'bit, 'width, 'short, 'long}
 use Rattle.assembly_rules.specs.Operands.{Written, takes, takes_all, has_word, Chosen, entry_in}
-use Rattle.assembly_rules.specs.Operands.Written.{nothing}
 use Rattle.assembly_rules.specs.Operands.Chosen.{taken, untaken}
 use Rattle.assembly_rules.proofs.WritingLaws.{both_left, both_right}
 use Rattle.assembly_rules.proofs.ScanLaws.{same-is}
-use Rattle.std.specs.Prelude.{Option, Some, None}
+use Rattle.std.specs.Prelude.{Option, Some, None, is_some, count_by}
 use Rattle.std.specs.List.{find}
 use Rattle.assembler_forms.specs.declared.operands.Form.{Form}
 use Rattle.assembler_forms.specs.declared.operands.Form.TheVariants.{Register, Memory, Offset, Value}
 use Rattle.assembler_forms.specs.declared.operands.Indexing.TheVariants.{Plain, Indexed, Stepped}
+use Rattle.assembler_forms.specs.declared.operands.Operands.{Operands}
 use Rattle.assembler_forms.specs.declared.table.EntryCode.{EntryCode}
 use Rattle.assembler_forms.specs.declared.table.PlaceKind.{PlaceKind}
 use Rattle.assembler_forms.specs.declared.table.PlaceKind.TheVariants as kind
 use Rattle.assembler_forms.specs.Forms.{Formed, written_form}
-use Rattle.assembler_forms.specs.Rows.{FormsAre, Untaken}
-use Rattle.assembler_forms.specs.Rows.FormsAre.{none, one, two, three}
-use Rattle.assembler_forms.specs.Table.{packed_word, word_number, in_bytes, NumberIs, kind_code, kinds_code, entry_code, coded, codes_by, kind_of, kind_from, kinds_in, kind_takes, places_take, code_takes}
+use Rattle.assembler_forms.specs.Rows.{FormsAre, RowIs, OperandRow}
+use Rattle.assembler_forms.specs.Rows.FormsAre.{none as no-forms, one as one-form, two as two-forms, three as three-forms}
+use Rattle.assembler_forms.specs.Rows.RowIs.{none, one, two, three, more}
+use Rattle.assembler_forms.specs.Table.{packed_word, word_number, in_bytes, NumberIs, kind_code, kinds_code, entry_code, coded, codes_by, kind_of, kind_from, kinds_in, place_takes, places_take, code_takes}
 
 byte-first : (c : ℕ) (cs : List ℕ) → in_bytes (c ∷ cs) ≡ true → c < 256
 unfolding in_bytes
@@ -198,40 +199,45 @@ takes-form text k (Memory mm Indexed) = refl
 takes-form text k (Memory mm Stepped) = refl
 takes-form text k (Value s) = refl
 
-place-told : (text : List ℕ) (k : OperandKind) (f : Form) (w : Written) → Formed text (Some f) w → kind_takes (kind_told k) f ≡ takes k w
-place-told text k f w h = ap (λ (x : OperandKind). takes x (written_form [] f)) (kind-back k) ∙ takes-form text k f ∙ ap (takes k) h.same
-
-and-true : (b : Bool) → b && true ≡ b
-and-true true = refl
-and-true false = refl
+place-told : (text : List ℕ) (k : OperandKind) (f : Option Form) (w : Written) → Formed text f w → place_takes (Some (kind_told k)) f ≡ takes k w
+unfolding takes
+place-told text k None w h = ap (takes k) h.same
+place-told text k (Some f) w h = ap (λ (x : OperandKind). takes x (written_form [] f)) (kind-back k) ∙ takes-form text k f ∙ ap (takes k) h.same
 
 and-false : (b : Bool) → b && false ≡ false
 and-false true = refl
 and-false false = refl
 
-pub all_take : (text : List ℕ) (ks : List OperandKind) (fs : List (Option Form)) (ws : List Written) → length ks ≤ 3 → FormsAre text fs ws → places_take (told_all ks) fs ≡ takes_all ks ws
-unfolding takes_all
-all_take text [] fs ws l none = refl
-all_take text [] fs ws l (one h) = refl
-all_take text [] fs ws l (two h i) = refl
-all_take text [] fs ws l (three h i j) = refl
-all_take text (k ∷ []) fs ws l none = refl
-all_take text (k ∷ []) fs ws l (one {f = f} {u = u} h) = rw (place-told text k f u h)
-all_take text (k ∷ []) fs ws l (two {f = f} {u = u} h i) = rw (place-told text k f u h, and-false (takes k u))
-all_take text (k ∷ []) fs ws l (three {f = f} {u = u} h i j) = rw (place-told text k f u h, and-false (takes k u))
-all_take text (k ∷ m ∷ []) fs ws l none = refl
-all_take text (k ∷ m ∷ []) fs ws l (one {f = f} {u = u} h) = rw (place-told text k f u h, and-false (takes k u))
-all_take text (k ∷ m ∷ []) fs ws l (two {f = f} {g = g} {u = u} {v = v} h i) = rw (place-told text k f u h, place-told text m g v i)
-all_take text (k ∷ m ∷ []) fs ws l (three {f = f} {g = g} {u = u} {v = v} h i j) = rw (place-told text k f u h, place-told text m g v i, and-false (takes m v))
-all_take text (k ∷ m ∷ n ∷ []) fs ws l none = refl
-all_take text (k ∷ m ∷ n ∷ []) fs ws l (one {f = f} {u = u} h) = rw (place-told text k f u h, and-false (takes k u))
-all_take text (k ∷ m ∷ n ∷ []) fs ws l (two {f = f} {g = g} {u = u} {v = v} h i) = rw (place-told text k f u h, place-told text m g v i, and-false (takes m v))
-all_take text (k ∷ m ∷ n ∷ []) fs ws l (three {f = f} {g = g} {h = o} {u = u} {v = v} {w = w} h i j) = rw (place-told text k f u h, place-told text m g v i, place-told text n o w j)
-all_take text (k ∷ m ∷ n ∷ o ∷ ks) fs ws l r = absurd (omega arith)
+abbrev pub all_told : List OperandKind → ℕ → List (Option Form) → Bool
+all_told ks n fs = eqb n (count_by is_some (told_all ks)) && places_take (told_all ks) fs
 
-code-takes : (text : List ℕ) (e : Entry) (fs : List (Option Form)) (ws : List Written) → Right e → FormsAre text fs ws → code_takes (coded e) fs ≡ takes_all e.kinds ws
+pub all_take : (text : List ℕ) (ks : List OperandKind) (n : ℕ) (fs : List (Option Form)) (ws : List Written) → length ks ≤ 3 → RowIs text n fs ws → all_told ks n fs ≡ takes_all ks ws
+unfolding takes_all
+all_take text [] n fs ws l none = refl
+all_take text [] n fs ws l (one h) = refl
+all_take text [] n fs ws l (two h i) = refl
+all_take text [] n fs ws l (three h i j) = refl
+all_take text [] n fs ws l (more h i j) = refl
+all_take text (k ∷ []) n fs ws l none = refl
+all_take text (k ∷ []) n fs ws l (one {f = f} {u = u} h) = rw (place-told text k f u h)
+all_take text (k ∷ []) n fs ws l (two {u = u} h i) = rw (and-false (takes k u))
+all_take text (k ∷ []) n fs ws l (three {u = u} h i j) = rw (and-false (takes k u))
+all_take text (k ∷ []) n fs ws l (more {u = u} h i j) = rw (and-false (takes k u))
+all_take text (k ∷ m ∷ []) n fs ws l none = refl
+all_take text (k ∷ m ∷ []) n fs ws l (one {u = u} h) = rw (and-false (takes k u))
+all_take text (k ∷ m ∷ []) n fs ws l (two {f = f} {g = g} {u = u} {v = v} h i) = rw (place-told text k f u h, place-told text m g v i)
+all_take text (k ∷ m ∷ []) n fs ws l (three {u = u} {v = v} h i j) = rw (and-false (takes m v), and-false (takes k u))
+all_take text (k ∷ m ∷ []) n fs ws l (more {u = u} {v = v} h i j) = rw (and-false (takes m v), and-false (takes k u))
+all_take text (k ∷ m ∷ o ∷ []) n fs ws l none = refl
+all_take text (k ∷ m ∷ o ∷ []) n fs ws l (one {u = u} h) = rw (and-false (takes k u))
+all_take text (k ∷ m ∷ o ∷ []) n fs ws l (two {u = u} {v = v} h i) = rw (and-false (takes m v), and-false (takes k u))
+all_take text (k ∷ m ∷ o ∷ []) n fs ws l (three {f = f} {g = g} {h = p} {u = u} {v = v} {w = w} h i j) = rw (place-told text k f u h, place-told text m g v i, place-told text o p w j)
+all_take text (k ∷ m ∷ o ∷ []) n fs ws l (more {u = u} {v = v} {w = w} h i j) = rw (and-false (takes o w), and-false (takes m v), and-false (takes k u))
+all_take text (k ∷ m ∷ o ∷ p ∷ ks) n fs ws l r = absurd (omega arith)
+
+code-takes : (text : List ℕ) (e : Entry) (o : Operands) (ws : List Written) → Right e → OperandRow text o ws → code_takes (coded e) o ≡ takes_all e.kinds ws
 unfolding code_takes
-code-takes text e fs ws r h = ap (λ (ks : List (Option PlaceKind)). places_take ks fs) (kinds-told e r) ∙ all_take text e.kinds fs ws r.few h
+code-takes text e o ws r h = ap (λ (ks : List (Option PlaceKind)). eqb o.count (count_by is_some ks) && places_take ks o.forms) (kinds-told e r) ∙ all_take text e.kinds o.count o.forms ws r.few h
 
 -- a word by its number
 pub word_same : (w r : List ℕ) → in_bytes w ≡ true → length w ≤ 6 → {n : ℕ} → NumberIs n r → eqb n (packed_word w) ≡ same_text w r
@@ -258,57 +264,56 @@ takes-length [] (w ∷ ws) h = absurd (false≢true h)
 takes-length (k ∷ ks) [] h = absurd (false≢true h)
 takes-length (k ∷ ks) (w ∷ ws) h = ap suc (takes-length ks ws (both_right (takes k w) (takes_all ks ws) h))
 
--- no more than three places take these operands
-pub untaken-none : (ws : List Written) → Untaken (nothing ∷ ws)
+-- operands that places take: none of them is no operand, and all are counted
+pub record RowTaken (text : List ℕ) (n : ℕ) (fs : List (Option Form)) (ws : List Written) : Type 0 where
+  pub count : n ≡ length ws
+  pub forms : FormsAre text fs ws
+
+no-first : {A : Type 0} (text : List ℕ) (ks : List OperandKind) (w : Written) (ws : List Written) → Formed text None w → takes_all ks (w ∷ ws) ≡ true → A
 unfolding takes_all takes
-untaken-none ws [] l = refl
-untaken-none ws (k ∷ ks) l = refl
+no-first text [] w ws h t = absurd (false≢true t)
+no-first text (k ∷ ks) w ws h t = absurd (false≢true (ap (takes k) h.same ∙ both_left (takes k w) (takes_all ks ws) t))
 
-pub untaken-next : (w : Written) (ws : List Written) → Untaken ws → Untaken (w ∷ ws)
+taken-rest : (ks : List OperandKind) (w : Written) (ws : List Written) → takes_all ks (w ∷ ws) ≡ true → (js : List OperandKind) × (takes_all js ws ≡ true)
 unfolding takes_all
-untaken-next w ws h [] l = refl
-untaken-next w ws h (k ∷ ks) l = rw (h ks (omega arith), and-false (takes k w))
+taken-rest [] w ws t = absurd (false≢true t)
+taken-rest (k ∷ ks) w ws t = (ks, both_right (takes k w) (takes_all ks ws) t)
 
-pub untaken-more : (u v w x : Written) (ws : List Written) → Untaken (u ∷ v ∷ w ∷ x ∷ ws)
-untaken-more u v w x ws ks l = go (takes_all ks (u ∷ v ∷ w ∷ x ∷ ws)) refl
-  where
-    go : (b : Bool) → takes_all ks (u ∷ v ∷ w ∷ x ∷ ws) ≡ b → b ≡ false
-    go true e = absurd (omega (arith, takes-length ks (u ∷ v ∷ w ∷ x ∷ ws) e))
-    go false e = refl
+pub row-taken : (text : List ℕ) (n : ℕ) (fs : List (Option Form)) (ws : List Written) (ks : List OperandKind) → length ks ≤ 3 → takes_all ks ws ≡ true → RowIs text n fs ws → RowTaken text n fs ws
+row-taken text n fs ws ks l t none = record { count = refl; forms = no-forms }
+row-taken text n fs ws ks l t (one {f = None} {u = u} h) = no-first text ks u [] h t
+row-taken text n fs ws ks l t (one {f = Some f} h) = record { count = refl; forms = one-form h }
+row-taken text n fs ws ks l t (two {f = None} {u = u} {v = v} h i) = no-first text ks u (v ∷ []) h t
+row-taken text n fs ws ks l t (two {f = Some f} {g = None} {u = u} {v = v} h i) = let r = taken-rest ks u (v ∷ []) t in no-first text r.0 v [] i r.1
+row-taken text n fs ws ks l t (two {f = Some f} {g = Some g} h i) = record { count = refl; forms = two-forms h i }
+row-taken text n fs ws ks l t (three {f = None} {u = u} {v = v} {w = w} h i j) = no-first text ks u (v ∷ w ∷ []) h t
+row-taken text n fs ws ks l t (three {f = Some f} {g = None} {u = u} {v = v} {w = w} h i j) = let r = taken-rest ks u (v ∷ w ∷ []) t in no-first text r.0 v (w ∷ []) i r.1
+row-taken text n fs ws ks l t (three {f = Some f} {g = Some g} {h = None} {u = u} {v = v} {w = w} h i j) =
+    let r = taken-rest ks u (v ∷ w ∷ []) t in
+    let q = taken-rest r.0 v (w ∷ []) r.1 in
+    no-first text q.0 w [] j q.1
+row-taken text n fs ws ks l t (three {f = Some f} {g = Some g} {h = Some o} h i j) = record { count = refl; forms = three-forms h i j }
+row-taken text n fs ws ks l t (more {u = u} {v = v} {w = w} {x = x} {ws = rest} h i j) = absurd (omega (arith, l, takes-length ks (u ∷ v ∷ w ∷ x ∷ rest) t))
 
 module _ (r : List ℕ) (n : ℕ) (k : NumberIs n r) where
   -- the entry of a word with its operands, as the code has them
-  chosen-from : (text : List ℕ) (fs : List (Option Form)) (es : List Entry) (ws : List Written) → each_entry right_entry es ≡ true → FormsAre text fs ws → find (λ (c : EntryCode). code_takes c fs) (codes_by es n) ≡ chosen_code (entry_in es r ws)
+  chosen-from : (text : List ℕ) (o : Operands) (es : List Entry) (ws : List Written) → each_entry right_entry es ≡ true → OperandRow text o ws → find (λ (c : EntryCode). code_takes c o) (codes_by es n) ≡ chosen_code (entry_in es r ws)
   unfolding codes_by entry_in
-  chosen-from text fs [] ws h m = refl
-  chosen-from text fs (e ∷ es) ws h m =
+  chosen-from text o [] ws h m = refl
+  chosen-from text o (e ∷ es) ws h m =
       let right = right-first e es h in
-      go (eqb n (packed_word e.word)) (same_text e.word r) (takes_all e.kinds ws) (word_same e.word r right.bytes right.short k) (code-takes text e fs ws right m) (chosen-from text fs es ws (right-rest e es h) m)
+      go (eqb n (packed_word e.word)) (same_text e.word r) (takes_all e.kinds ws) (word_same e.word r right.bytes right.short k) (code-takes text e o ws right m) (chosen-from text o es ws (right-rest e es h) m)
     where
-      go : (x y z : Bool) → x ≡ y → code_takes (coded e) fs ≡ z → find (λ (c : EntryCode). code_takes c fs) (codes_by es n) ≡ chosen_code (entry_in es r ws)
-          → find (λ (c : EntryCode). code_takes c fs) (pick x (coded e ∷ codes_by es n) (codes_by es n)) ≡ chosen_code (pick (y && z) (taken e) (entry_in es r ws))
+      go : (x y z : Bool) → x ≡ y → code_takes (coded e) o ≡ z → find (λ (c : EntryCode). code_takes c o) (codes_by es n) ≡ chosen_code (entry_in es r ws)
+          → find (λ (c : EntryCode). code_takes c o) (pick x (coded e ∷ codes_by es n) (codes_by es n)) ≡ chosen_code (pick (y && z) (taken e) (entry_in es r ws))
       go true true true p q later = rw q
       go true true false p q later = rw q later
       go true false z p q later = absurd (false≢true (sym p))
       go false true z p q later = absurd (false≢true p)
       go false false z p q later = later
 
-  pub fitting-told : (text : List ℕ) (fs : List (Option Form)) (ws : List Written) → FormsAre text fs ws → find (λ (c : EntryCode). code_takes c fs) (codes_by entries n) ≡ chosen_code (entry_in entries r ws)
-  fitting-told text fs ws h = chosen-from text fs entries ws entries-right h
-
-  -- operands that no three places take have no entry
-  untaken-from : (es : List Entry) (ws : List Written) → each_entry right_entry es ≡ true → Untaken ws → entry_in es r ws ≡ untaken
-  unfolding entry_in
-  untaken-from [] ws h m = refl
-  untaken-from (e ∷ es) ws h m = go (same_text e.word r) (takes_all e.kinds ws) (m e.kinds (right-first e es h).few) (untaken-from es ws (right-rest e es h) m)
-    where
-      go : (x y : Bool) → y ≡ false → entry_in es r ws ≡ untaken → pick (x && y) (taken e) (entry_in es r ws) ≡ untaken
-      go true true p later = absurd (false≢true (sym p))
-      go true false p later = later
-      go false y p later = later
-
-  pub untaken-told : (ws : List Written) → Untaken ws → entry_in entries r ws ≡ untaken
-  untaken-told ws h = untaken-from entries ws entries-right h
+  pub fitting-told : (text : List ℕ) (o : Operands) (ws : List Written) → OperandRow text o ws → find (λ (c : EntryCode). code_takes c o) (codes_by entries n) ≡ chosen_code (entry_in entries r ws)
+  fitting-told text o ws h = chosen-from text o entries ws entries-right h
 
   -- and whether a word has entries
   has-from : (es : List Entry) → each_entry right_entry es ≡ true → has_word es r ≡ not (eqb (length (codes_by es n)) 0)

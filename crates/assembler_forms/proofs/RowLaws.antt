@@ -24,9 +24,8 @@ use Rattle.assembler_text.proofs.PlaceLaws.{from-here, lead-fails, no-tokens-the
 use Rattle.assembler_forms.specs.declared.operands.Form.{Form}
 use Rattle.assembler_forms.specs.Forms.{operand_tokens, Formed}
 use Rattle.assembler_forms.proofs.FormLaws.{no-some, some-same}
-use Rattle.assembler_forms.proofs.EntryLaws.{untaken-none, untaken-next, untaken-more}
-use Rattle.assembler_forms.specs.Rows.{comma_at, ends_by, ends_at, next_part, left_behind, FormsAre, Untaken}
-use Rattle.assembler_forms.specs.Rows.FormsAre.{one, two, three}
+use Rattle.assembler_forms.specs.Rows.{comma_at, ends_by, ends_at, next_part, left_behind, RowIs}
+use Rattle.assembler_forms.specs.Rows.RowIs.{one, two, three, more}
 
 -- tokens from a comma on: a run in front of them does not matter
 from-run : (front : List ℕ) (rest : List Token) → from_comma (run_before front rest) ≡ from_comma rest
@@ -270,29 +269,20 @@ row_first text at = go (next_part text at) refl
     go None e = ([], row_ends text at e)
 
 -- the row from a place on, as the code has it
-pub row-none : (text : List ℕ) (at : ℕ) → Formed text None (operand_from (operand_tokens text at)) → Untaken (row_from text at)
-row-none text at h = let r = row_first text at in rw (r.1, sym h.same) (untaken-none r.0)
-
-pub row-untaken : (text : List ℕ) (at next : ℕ) → next_part text at ≡ Some next → Untaken (row_from text next) → Untaken (row_from text at)
-row-untaken text at next e h = rw (row_goes text at next e) (untaken-next (operand_from (operand_tokens text at)) (row_from text next) h)
-
-module _ (text : List ℕ) (at : ℕ) (f : Form) (a : Formed text (Some f) (operand_from (operand_tokens text at))) where
-  pub row_one : next_part text at ≡ None → FormsAre text (Some f ∷ None ∷ None ∷ []) (row_from text at)
+module _ (text : List ℕ) (at : ℕ) (f : Option Form) (a : Formed text f (operand_from (operand_tokens text at))) where
+  pub row_one : next_part text at ≡ None → RowIs text 1 (f ∷ None ∷ None ∷ []) (row_from text at)
   row_one e = rw (row_ends text at e) (one a)
 
-  module _ (p : ℕ) (e : next_part text at ≡ Some p) (g : Form) (b : Formed text (Some g) (operand_from (operand_tokens text p))) where
-    pub row_two : next_part text p ≡ None → FormsAre text (Some f ∷ Some g ∷ None ∷ []) (row_from text at)
+  module _ (p : ℕ) (e : next_part text at ≡ Some p) (g : Option Form) (b : Formed text g (operand_from (operand_tokens text p))) where
+    pub row_two : next_part text p ≡ None → RowIs text 2 (f ∷ g ∷ None ∷ []) (row_from text at)
     row_two i = rw (row_goes text at p e, row_ends text p i) (two a b)
 
-    module _ (q : ℕ) (i : next_part text p ≡ Some q) where
-      pub row_three : (h : Form) → Formed text (Some h) (operand_from (operand_tokens text q)) → next_part text q ≡ None → FormsAre text (Some f ∷ Some g ∷ Some h ∷ []) (row_from text at)
-      row_three h c j = rw (row_goes text at p e, row_goes text p q i, row_ends text q j) (three a b c)
+    module _ (q : ℕ) (i : next_part text p ≡ Some q) (h : Option Form) (c : Formed text h (operand_from (operand_tokens text q))) where
+      pub row_three : next_part text q ≡ None → RowIs text 3 (f ∷ g ∷ h ∷ []) (row_from text at)
+      row_three j = rw (row_goes text at p e, row_goes text p q i, row_ends text q j) (three a b c)
 
-      pub row-over : (r : ℕ) → next_part text q ≡ Some r → Untaken (row_from text at)
-      row-over r j =
-          let more = row_first text r in
-          rw (row_goes text at p e, row_goes text p q i, row_goes text q r j, more.1)
-          (untaken-more (operand_from (operand_tokens text at)) (operand_from (operand_tokens text p)) (operand_from (operand_tokens text q)) (operand_from (operand_tokens text r)) more.0)
+      pub row-over : (r : ℕ) → next_part text q ≡ Some r → RowIs text 4 (f ∷ g ∷ h ∷ []) (row_from text at)
+      row-over r j = let later = row_first text r in rw (row_goes text at p e, row_goes text p q i, row_goes text q r j, later.1) (more a b c)
 
 -- no operands where the line ends
 pub ends-tokens : (text : List ℕ) (at : ℕ) (f : Option Found) → token_at text at ≡ f → ends_by f ≡ true → tokens_of (drop at text) ≡ []

@@ -1,8 +1,7 @@
 -- Operands in a row, as the code has them.
-use Rattle.std.specs.Prelude.{◌≡◌, Bool, true, false, ◌&&◌, List, [], ◌∷◌, ℕ, ◌+◌, ◌-◌, ◌≤◌, Option, Some, None, eqb, ltb, length, get_or}
+use Rattle.std.specs.Prelude.{Bool, true, false, ◌&&◌, List, [], ◌∷◌, ℕ, ◌+◌, ◌-◌, Option, Some, None, eqb, ltb, length, get_or}
 use Rattle.ground_rules.specs.Choice.{pick}
-use Rattle.listing_rules.specs.Entries.{OperandKind}
-use Rattle.assembly_rules.specs.Operands.{Written, takes_all}
+use Rattle.assembly_rules.specs.Operands.{Written}
 use Rattle.assembler_text.specs.declared.tokens.TokenFound.{TokenFound as Found}
 use Rattle.assembler_text.specs.declared.tokens.TokenFound.TheVariants.{Run, Mark}
 use Rattle.assembler_text.specs.Places.{stop_at, token_at}
@@ -31,18 +30,21 @@ abbrev pub left_behind : List ℕ → Option ℕ → ℕ
 left_behind text (Some i) = 1 + (length text - i)
 left_behind text None = 0
 
--- up to three operands, none behind them
+-- up to three operands that are some, none behind them
 pub data FormsAre (text : List ℕ) : List (Option Form) → List Written → Type 0 where
   none : FormsAre text (None ∷ None ∷ None ∷ []) []
   one : {f : Form} {u : Written} → Formed text (Some f) u → FormsAre text (Some f ∷ None ∷ None ∷ []) (u ∷ [])
   two : {f g : Form} {u v : Written} → Formed text (Some f) u → Formed text (Some g) v → FormsAre text (Some f ∷ Some g ∷ None ∷ []) (u ∷ v ∷ [])
   three : {f g h : Form} {u v w : Written} → Formed text (Some f) u → Formed text (Some g) v → Formed text (Some h) w → FormsAre text (Some f ∷ Some g ∷ Some h ∷ []) (u ∷ v ∷ w ∷ [])
 
--- operands that no three places take
-abbrev pub Untaken : List Written → Type 0
-Untaken ws = (ks : List OperandKind) → length ks ≤ 3 → takes_all ks ws ≡ false
+-- operands by how many there are, 4 for more than three, and the first three, which may be none; none behind the last
+pub data RowIs (text : List ℕ) : ℕ → List (Option Form) → List Written → Type 0 where
+  none : RowIs text 0 (None ∷ None ∷ None ∷ []) []
+  one : {f : Option Form} {u : Written} → Formed text f u → RowIs text 1 (f ∷ None ∷ None ∷ []) (u ∷ [])
+  two : {f g : Option Form} {u v : Written} → Formed text f u → Formed text g v → RowIs text 2 (f ∷ g ∷ None ∷ []) (u ∷ v ∷ [])
+  three : {f g h : Option Form} {u v w : Written} → Formed text f u → Formed text g v → Formed text h w → RowIs text 3 (f ∷ g ∷ h ∷ []) (u ∷ v ∷ w ∷ [])
+  more : {f g h : Option Form} {u v w x : Written} {ws : List Written} → Formed text f u → Formed text g v → Formed text h w → RowIs text 4 (f ∷ g ∷ h ∷ []) (u ∷ v ∷ w ∷ x ∷ ws)
 
--- operands as the code has them, none where no entry can take them
-abbrev pub OperandRow : List ℕ → Option Operands → List Written → Type 0
-OperandRow text (Some o) ws = FormsAre text o.forms ws
-OperandRow text None ws = Untaken ws
+-- operands as the code has them
+abbrev pub OperandRow : List ℕ → Operands → List Written → Type 0
+OperandRow text o ws = RowIs text o.count o.forms ws

@@ -1,11 +1,12 @@
 -- The entries of the words as numbers, as the code has them.
-use Rattle.std.specs.Prelude.{◌≡◌, Bool, true, false, ◌&&◌, List, [], ◌∷◌, ℕ, zero, suc, ◌+◌, ◌*◌, ◌/◌, ◌%◌, ◌^◌, Option, Some, None, eqb, ltb, length, zip}
+use Rattle.std.specs.Prelude.{◌≡◌, Bool, true, false, ◌&&◌, List, [], ◌∷◌, ℕ, zero, suc, ◌+◌, ◌*◌, ◌/◌, ◌%◌, ◌^◌, Option, Some, None, is_some, eqb, ltb, length, zip, count_by}
 use Rattle.std.specs.List.{list_all}
 use Rattle.ground_rules.specs.Choice.{pick}
 use Rattle.listing_rules.specs.Entries.{OperandKind, Entry}
 use Rattle.listing_rules.specs.Entries.OperandKind.{'R, 'G, 'P, 'M, 'byte, 'word, 'bit, 'width, 'short, 'long}
 use Rattle.assembly_rules.specs.Operands.{takes}
 use Rattle.assembler_forms.specs.declared.operands.Form.{Form}
+use Rattle.assembler_forms.specs.declared.operands.Operands.{Operands}
 use Rattle.assembler_forms.specs.declared.table.EntryCode.{EntryCode}
 use Rattle.assembler_forms.specs.declared.table.PlaceKind.{PlaceKind}
 use Rattle.assembler_forms.specs.declared.table.PlaceKind.TheVariants.{Register, General, Pointer, Memory, Byte, Word, Bit, Width, Short, Long}
@@ -103,9 +104,14 @@ place_takes None (Some f) = false
 place_takes (Some k) None = false
 place_takes (Some k) (Some f) = kind_takes k f
 
--- whether all places of an entry take operands
+-- whether each place takes its operand
 abbrev pub places_take : List (Option PlaceKind) → List (Option Form) → Bool
 places_take ks fs = list_all (λ p. place_takes p.0 p.1) (zip ks fs)
 
-unfoldable pub code_takes : EntryCode → List (Option Form) → Bool
-code_takes c fs = places_take (kinds_in c) fs
+-- how many places an entry has
+abbrev pub places_in : EntryCode → ℕ
+places_in c = count_by is_some (kinds_in c)
+
+-- an entry takes as many operands as it has places, and each place takes its own
+unfoldable pub code_takes : EntryCode → Operands → Bool
+code_takes c o = eqb o.count (places_in c) && places_take (kinds_in c) o.forms

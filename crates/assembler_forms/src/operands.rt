@@ -205,9 +205,11 @@ pub fn operand(text: &[u8], at: usize) -> Option<Form>
     Some(Form::Value(sum))
 }
 
-// Up to three operands, and none behind them.
+// How many operands there are, 4 where they are more than three, and the first three; none where what stands there is no
+// operand, and behind the last.
 #[derive(Clone, Copy)]
 pub struct Operands {
+    pub count: u32,
     pub forms: [Option<Form>; 3],
 }
 
@@ -261,31 +263,34 @@ pub fn next_part(text: &[u8], at: usize) -> Option<usize>
     None
 }
 
-// The operands from a place up to the line's end; none where they are more than three or one of them is no operand. One is read
-// after another: a loop over three places that leaves early is longer.
-pub fn operands_at(text: &[u8], at: usize) -> Option<Operands>
+// The operands from a place up to the line's end. One is read after another: a loop over three places that leaves early is
+// longer. A place that holds no operand is still counted, so that `NOP ]` has one and not none.
+pub fn operands_at(text: &[u8], at: usize) -> Operands
     ensures { OperandRow text.now result (operands_from (operand_parts (tokens_of (drop at text.now)))) }
 {
     if ends(text, at) {
-        return Some(Operands { forms: [None; 3] });
+        return Operands {
+            count: 0,
+            forms: [None; 3],
+        };
     }
-    let first = operand(text, at)?;
+    let first = operand(text, at);
     let Some(at) = next_part(text, at) else {
-        return Some(Operands {
-            forms: [Some(first), None, None],
-        });
+        return Operands {
+            count: 1,
+            forms: [first, None, None],
+        };
     };
-    let second = operand(text, at)?;
+    let second = operand(text, at);
     let Some(at) = next_part(text, at) else {
-        return Some(Operands {
-            forms: [Some(first), Some(second), None],
-        });
+        return Operands {
+            count: 2,
+            forms: [first, second, None],
+        };
     };
-    let third = operand(text, at)?;
+    let forms = [first, second, operand(text, at)];
     match next_part(text, at) {
-        Some(_) => None,
-        None => Some(Operands {
-            forms: [Some(first), Some(second), Some(third)],
-        }),
+        Some(_) => Operands { count: 4, forms },
+        None => Operands { count: 3, forms },
     }
 }

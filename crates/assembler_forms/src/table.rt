@@ -3,7 +3,7 @@ ghost use Rattle.std.specs.Prelude.{◌≡◌, ◌/◌, ◌%◌, zip};
 ghost use Rattle.std.specs.List.{find, list_all};
 ghost use Rattle.listing_rules.specs.Entries.{entries};
 ghost use Rattle.assembly_rules.specs.Text.{capitals};
-ghost use Rattle.assembler_forms.specs.Table.{NumberIs, kind_from, kinds_in, codes_by, kind_takes, place_takes, code_takes};
+ghost use Rattle.assembler_forms.specs.Table.{NumberIs, kind_from, kinds_in, codes_by, kind_takes, place_takes, places_in, places_take, code_takes};
 
 use crate::operands::{Form, Operands};
 use assembler_text::characters;
@@ -127,15 +127,29 @@ impl EntryCode {
         self.0 % 256
     }
 
-    #[tactic(auto, unfolding(crate::specs::Table::code_takes))]
-    // Whether its places take operands.
-    fn takes(self, o: Operands) -> bool
-        ensures { result ≡ code_takes self o.forms }
+    // How many places it has.
+    fn places(self) -> usize
+        ensures { result ≡ places_in self }
+    {
+        self.kinds().iter().filter(|kind| kind.is_some()).count()
+    }
+
+    // Whether each of its places takes its operand, and there is none behind them.
+    fn takes_each(self, o: Operands) -> bool
+        ensures { result ≡ places_take (kinds_in self) o.forms }
     {
         self.kinds()
             .iter()
             .zip(&o.forms)
             .all(|(kind, form)| place_takes(*kind, *form))
+    }
+
+    #[tactic(auto, unfolding(crate::specs::Table::code_takes))]
+    // Whether its places take operands: as many as they are, and each its own.
+    fn takes(self, o: Operands) -> bool
+        ensures { result ≡ code_takes self o }
+    {
+        o.count as usize == self.places() && self.takes_each(o)
     }
 }
 
@@ -230,7 +244,7 @@ pub fn codes_of(word: u64) -> &'static [EntryCode]
 
 // The first of some entries that takes operands.
 pub fn fitting(codes: &[EntryCode], o: Operands) -> Option<EntryCode>
-    ensures { result ≡ find (λ c. code_takes c o.forms) codes.now }
+    ensures { result ≡ find (λ c. code_takes c o) codes.now }
 {
     codes.iter().copied().find(|code| code.takes(o))
 }

@@ -29,11 +29,11 @@ use Rattle.assembler_forms.specs.declared.operands.Operands.{Operands}
 use Rattle.assembler_forms.specs.declared.operands.Form.{Form}
 use Rattle.assembler_forms.specs.declared.table.EntryCode.{EntryCode}
 use Rattle.assembler_forms.specs.Forms.{low_by}
-use Rattle.assembler_forms.specs.Rows.{FormsAre, Untaken}
+use Rattle.assembler_forms.specs.Rows.{FormsAre, OperandRow}
 use Rattle.assembler_forms.specs.Rows.FormsAre.{none, one, two, three}
 use Rattle.assembler_forms.specs.Table.{packed_word, in_bytes, NumberIs, coded, codes_by, code_takes}
 use Rattle.assembler_forms.proofs.FormLaws.{no-some, some-same}
-use Rattle.assembler_forms.proofs.EntryLaws.{each_entry, right_entry, entries-right, Right, right_so, takes-length, word_same, chosen_code, fitting-told, untaken-told, word-told}
+use Rattle.assembler_forms.proofs.EntryLaws.{each_entry, right_entry, entries-right, Right, right_so, takes-length, word_same, chosen_code, RowTaken, row-taken, fitting-told, word-told}
 use Rattle.assembler_lines.specs.declared.bodies.Body.TheVariants.{Blank, Instruction}
 use Rattle.assembler_lines.specs.declared.bodies.LineRefusal.TheVariants.{UnknownWord, UnknownForm, TooDeep}
 use Rattle.assembler_lines.specs.Bodies.{Among, BodyIs}
@@ -145,23 +145,19 @@ module _ (name : List ℕ) (n : ℕ) (k : NumberIs n name) where
         formed : statement_of (run name ∷ ts) ≡ formed_by (entry_in entries name ws) ws
         formed = says-word ∙ rw (word-told name n k codes c, some)
 
-        pub says-no-row : Untaken (operands_from (operand_parts ts)) → BodyIs text (Err UnknownForm) (statement_of (run name ∷ ts))
-        unfolding ws
-        says-no-row u = (formed ∙ rw (untaken-told name n k ws u), omega arith)
-
-        module _ (o : Operands) (row : FormsAre text o.forms (operands_from (operand_parts ts))) where
-          told : find (λ (x : EntryCode). code_takes x o.forms) codes ≡ chosen_code (entry_in entries name ws)
+        module _ (o : Operands) (row : OperandRow text o (operands_from (operand_parts ts))) where
+          told : find (λ (x : EntryCode). code_takes x o) codes ≡ chosen_code (entry_in entries name ws)
           unfolding ws
-          told = ap (find (λ (x : EntryCode). code_takes x o.forms)) c ∙ fitting-told name n k text o.forms ws row
+          told = ap (find (λ (x : EntryCode). code_takes x o)) c ∙ fitting-told name n k text o ws row
 
-          pub says-no-form : find (λ (x : EntryCode). code_takes x o.forms) codes ≡ None → BodyIs text (Err UnknownForm) (statement_of (run name ∷ ts))
+          pub says-no-form : find (λ (x : EntryCode). code_takes x o) codes ≡ None → BodyIs text (Err UnknownForm) (statement_of (run name ∷ ts))
           says-no-form z = (formed ∙ go (entry_in entries name ws) (sym told ∙ z), omega arith)
             where
               go : (x : Chosen) → chosen_code x ≡ None → formed_by x ws ≡ refused 31
               go (taken e) q = no-some (sym q)
               go untaken q = refl
 
-          module _ (code : EntryCode) (is : find (λ (x : EntryCode). code_takes x o.forms) codes ≡ Some code) where
+          module _ (code : EntryCode) (is : find (λ (x : EntryCode). code_takes x o) codes ≡ Some code) where
             record Taken : Type 0 where
               entry : Entry
               so : entry_in entries name ws ≡ taken entry
@@ -175,9 +171,12 @@ module _ (name : List ℕ) (n : ℕ) (k : NumberIs n name) where
                 go (taken e) f q = record { entry = e; so = f; number = some-same q; found = entry_found entries name ws e f }
                 go untaken f q = no-some (sym q)
 
-            shallow : list_all low_by o.forms ≡ all_shallow ws
+            row-is : RowTaken text o.count o.forms ws
             unfolding ws
-            shallow = row-low text o.forms ws row
+            row-is = row-taken text o.count o.forms ws it.entry.kinds (among-right it.entry it.found.listed).few it.found.fits row
+
+            shallow : list_all low_by o.forms ≡ all_shallow ws
+            shallow = row-low text o.forms ws row-is.forms
 
             pub says-deep : list_all low_by o.forms ≡ false → BodyIs text (Err TooDeep) (statement_of (run name ∷ ts))
             says-deep l = (formed ∙ ap (λ (x : Chosen). formed_by x ws) it.so ∙ rw (sym shallow ∙ l), omega arith)
@@ -191,7 +190,8 @@ module _ (name : List ℕ) (n : ℕ) (k : NumberIs n name) where
                   same = formed ∙ ap (λ (x : Chosen). formed_by x ws) it.so ∙ rw (sym shallow ∙ l);
                   number = it.number;
                   listed = it.found.listed;
-                  row = row;
+                  count = row-is.count;
+                  row = row-is.forms;
                   fits = it.found.fits;
                   sums = operands-sums (operand_parts ts);
                   shallow = sym shallow ∙ l;

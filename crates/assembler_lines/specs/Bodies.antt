@@ -88,6 +88,7 @@ pub record SaysInstruction (text : List ℕ) (code : EntryCode) (o : Operands) (
   pub same : s ≡ instruction entry written
   pub number : code ≡ coded entry
   pub listed : Among entry entries
+  pub count : o.count ≡ length written
   pub row : FormsAre text o.forms written
   pub fits : takes_all entry.kinds written ≡ true
   pub sums : are_sums written ≡ true

@@ -92,7 +92,7 @@ fn worded(text: &[u8], at: usize, word: u64) -> Result<Body, LineRefusal>
     if codes.is_empty() {
         return Err(LineRefusal::UnknownWord);
     }
-    let operands = operands::operands_at(text, at).ok_or(LineRefusal::UnknownForm)?;
+    let operands = operands::operands_at(text, at);
     let code = table::fitting(codes, operands).ok_or(LineRefusal::UnknownForm)?;
     if !operands.are_low() {
         return Err(LineRefusal::TooDeep);

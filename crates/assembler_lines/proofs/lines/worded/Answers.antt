@@ -6,14 +6,9 @@ use Rattle.assembly_rules.specs.Text.{tokens_of}
 use Rattle.std.proofs.Common.{rules, tests}
 use Rattle.std.specs.declared.option.Option.TheVariants.{None, Some}
 use Rattle.std.specs.declared.result.Result.TheVariants.{Err}
-use Rattle.std.specs.Prelude.{Option}
-use Rattle.assembly_rules.specs.Statements.{operand_parts}
-use Rattle.assembly_rules.specs.Operands.{operands_from}
-use Rattle.assembler_forms.specs.declared.operands.Operands.{Operands}
-use Rattle.assembler_forms.specs.Rows.{OperandRow}
 use Rattle.assembler_lines.specs.declared.bodies.LineRefusal.TheVariants.{UnknownForm}
 use Rattle.assembler_lines.specs.Bodies.{BodyIs}
-use Rattle.assembler_lines.proofs.BodyLaws.{says-bytes, says-words, says_nothing, says-no-row, says-no-form, says-deep, says-form}
+use Rattle.assembler_lines.proofs.BodyLaws.{says-bytes, says-words, says_nothing, says-no-form, says-deep, says-form}
 use Rattle.assembler_lines.proofs.lines.worded.Goals as goal
 
 pub returns-then-word-eq-DB : goal.returns-then-word-eq-DB
@@ -25,35 +20,21 @@ returns-then-word-eq-DW c name k = let text = c.args.text.now in subst (BodyIs t
 pub returns-then-is_empty : goal.returns-then-is_empty
 returns-then-is_empty c name k = let text = c.args.text.now in says_nothing name _ k (tokens_of (drop c.args.at text)) text c.if-word-eq-DB.false c.if-word-eq-DW.false _ c.codes_of-codes.ensures (sym c.is_empty.ensures ∙ c.if-is_empty.true)
 
-pub returns-in_err-operands : goal.returns-in_err-operands
-returns-in_err-operands c name k =
-    let text = c.args.text.now in
-    let none : c.operands_at.result ≡ None = search (rules, tests) in
-    let err : c.from_residual.result ≡ Err UnknownForm = search (rules, tests) in
-    let row = subst (λ (o : Option Operands). OperandRow text o (operands_from (operand_parts (tokens_of (drop c.args.at text))))) none c.operands_at.ensures in
-    rw err (says-no-row name _ k (tokens_of (drop c.args.at text)) text c.if-word-eq-DB.false c.if-word-eq-DW.false _ c.codes_of-codes.ensures (sym c.is_empty.ensures ∙ c.if-is_empty.false) row)
-
 pub returns-in_err-code : goal.returns-in_err-code
 returns-in_err-code c name k =
     let text = c.args.text.now in
-    let some : c.operands_at.result ≡ Some c.in_ok-operands.operands = search (rules, tests) in
     let none : c.fitting.result ≡ None = search (rules, tests) in
-    let err : c.from_residual-in_err-code.result ≡ Err UnknownForm = search (rules, tests) in
-    let row = subst (λ (o : Option Operands). OperandRow text o (operands_from (operand_parts (tokens_of (drop c.args.at text))))) some c.operands_at.ensures in
-    rw err (says-no-form name _ k (tokens_of (drop c.args.at text)) text c.if-word-eq-DB.false c.if-word-eq-DW.false _ c.codes_of-codes.ensures (sym c.is_empty.ensures ∙ c.if-is_empty.false) _ row (sym c.fitting.ensures ∙ none))
+    let err : c.from_residual.result ≡ Err UnknownForm = search (rules, tests) in
+    rw err (says-no-form name _ k (tokens_of (drop c.args.at text)) text c.if-word-eq-DB.false c.if-word-eq-DW.false _ c.codes_of-codes.ensures (sym c.is_empty.ensures ∙ c.if-is_empty.false) _ c.operands_at-operands.ensures (sym c.fitting.ensures ∙ none))
 
 pub returns-then-not-are_low : goal.returns-then-not-are_low
 returns-then-not-are_low c name k =
     let text = c.args.text.now in
-    let some : c.operands_at.result ≡ Some c.in_ok-operands.operands = search (rules, tests) in
     let code : c.fitting.result ≡ Some c.in_ok-code.code = search (rules, tests) in
-    let row = subst (λ (o : Option Operands). OperandRow text o (operands_from (operand_parts (tokens_of (drop c.args.at text))))) some c.operands_at.ensures in
-    says-deep name _ k (tokens_of (drop c.args.at text)) text c.if-word-eq-DB.false c.if-word-eq-DW.false _ c.codes_of-codes.ensures (sym c.is_empty.ensures ∙ c.if-is_empty.false) _ row _ (sym c.fitting.ensures ∙ code) (sym c.are_low.ensures ∙ c.if-not-are_low.true)
+    says-deep name _ k (tokens_of (drop c.args.at text)) text c.if-word-eq-DB.false c.if-word-eq-DW.false _ c.codes_of-codes.ensures (sym c.is_empty.ensures ∙ c.if-is_empty.false) _ c.operands_at-operands.ensures _ (sym c.fitting.ensures ∙ code) (sym c.are_low.ensures ∙ c.if-not-are_low.true)
 
 pub returns : goal.returns
 returns c name k =
     let text = c.args.text.now in
-    let some : c.operands_at.result ≡ Some c.in_ok-operands.operands = search (rules, tests) in
     let code : c.fitting.result ≡ Some c.in_ok-code.code = search (rules, tests) in
-    let row = subst (λ (o : Option Operands). OperandRow text o (operands_from (operand_parts (tokens_of (drop c.args.at text))))) some c.operands_at.ensures in
-    says-form name _ k (tokens_of (drop c.args.at text)) text c.if-word-eq-DB.false c.if-word-eq-DW.false _ c.codes_of-codes.ensures (sym c.is_empty.ensures ∙ c.if-is_empty.false) _ row _ (sym c.fitting.ensures ∙ code) (sym c.are_low.ensures ∙ c.if-not-are_low.false)
+    says-form name _ k (tokens_of (drop c.args.at text)) text c.if-word-eq-DB.false c.if-word-eq-DW.false _ c.codes_of-codes.ensures (sym c.is_empty.ensures ∙ c.if-is_empty.false) _ c.operands_at-operands.ensures _ (sym c.fitting.ensures ∙ code) (sym c.are_low.ensures ∙ c.if-not-are_low.false)
