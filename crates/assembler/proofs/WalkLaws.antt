@@ -40,6 +40,7 @@ use Rattle.assembler_lines.specs.declared.bodies.LineRefusal.{LineRefusal}
 use Rattle.assembler_lines.specs.declared.bodies.LineRefusal.TheVariants.{UnknownWord, UnknownForm, TooDeep, UnknownName, OutOfRange, NoRoom}
 use Rattle.assembler_lines.specs.Bodies.{line_refusal_number, span_name, SpanIs, HeadIs, Says, BodyIs}
 use Rattle.assembler_bytes.specs.Laid.{bytes_laid}
+use Rattle.assembler_bytes.proofs.PlacedLaws.{refused-number}
 use Rattle.assembler.specs.declared.lines.LineRead.{LineRead}
 use Rattle.assembler.specs.declared.passes.Refused.{Refused}
 use Rattle.assembler.specs.Passes.{in_line, line_stop, line_next, said_at, said_from, said_to, LineIs, labels_in, behind, capped_count, assembly_word}
@@ -304,10 +305,6 @@ least TooDeep = omega arith
 least UnknownName = omega arith
 least OutOfRange = omega arith
 least NoRoom = omega arith
-
-refused-number : (labels : List Label) (address n : ℕ) → n ≡ statement_number labels address (refused n)
-unfolding statement_number
-refused-number labels address n = refl
 
 module _ (labels kept : List Label) (address before left : ℕ) (text : List ℕ) (name : List ℕ) (s : Statement) where
   -- the number of a line: as it shows itself

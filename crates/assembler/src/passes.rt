@@ -89,11 +89,12 @@ fn check_line(
     requires { IfSome line.label (SpanIs text.now) × ((length labels.now.places.now ≡ length labels.now.addresses.now) × (count ≤ length labels.now.places.now)) }
     ensures { (s : Statement) → BodyIs text.now line.said s → line.size ≡ statement_size s → (before : ℕ) → line_answered result ≡ line_number (labels_of text.now labels.now) (labels_in text.now labels.now.places.now labels.now.addresses.now count) address before (before + left) (record { name = span_name text.now line.label; statement = s }) }
 {
-    let body = line.said?;
+    // What the line itself shows goes before what its label does.
+    line.said?;
     if !lines::label_stands(text, line.label, &labels.first(count)) {
         return Err(LineRefusal::UnknownName);
     }
-    assembler_bytes::check(text, body, labels, address)?;
+    assembler_bytes::check(text, line.said, labels, address)?;
     if left < line.size {
         return Err(LineRefusal::NoRoom);
     }

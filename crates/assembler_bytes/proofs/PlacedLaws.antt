@@ -408,6 +408,10 @@ pub blank-bytes : (labels : List Label) (address : ℕ) → statement_bytes labe
 unfolding statement_bytes
 blank-bytes labels address = refl
 
+pub refused-number : (labels : List Label) (address n : ℕ) → n ≡ statement_number labels address (refused n)
+unfolding statement_number
+refused-number labels address n = refl
+
 pub refused-bytes : (labels : List Label) (address n : ℕ) → statement_bytes labels address (refused n) ≡ []
 unfolding statement_bytes
 refused-bytes labels address n = refl

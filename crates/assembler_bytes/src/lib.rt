@@ -20,7 +20,7 @@ use assembler_lines::bodies::{Body, LineRefusal};
 use assembler_text::labels::Labels;
 
 // Why what stands behind a label is refused at an address, if it is: a name is unknown, or a number may not stand.
-pub fn check(text: &[u8], body: Body, labels: &Labels, address: u32) -> Result<(), LineRefusal>
+fn check_body(text: &[u8], body: Body, labels: &Labels, address: u32) -> Result<(), LineRefusal>
     ensures { (s : Statement) → Says text.now body s → line_answered result ≡ statement_number (labels_of text.now labels.now) address s }
 {
     match body {
@@ -29,6 +29,21 @@ pub fn check(text: &[u8], body: Body, labels: &Labels, address: u32) -> Result<(
         Body::Instruction { code, operands } => instructions::check(
             text, code, operands, labels, address,
         ),
+    }
+}
+
+// The same of a line that may be refused already, as the line itself shows.
+pub fn check(
+    text: &[u8],
+    said: Result<Body, LineRefusal>,
+    labels: &Labels,
+    address: u32,
+) -> Result<(), LineRefusal>
+    ensures { (s : Statement) → BodyIs text.now said s → line_answered result ≡ statement_number (labels_of text.now labels.now) address s }
+{
+    match said {
+        Ok(body) => check_body(text, body, labels, address),
+        Err(refusal) => Err(refusal),
     }
 }
 
