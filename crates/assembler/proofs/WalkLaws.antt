@@ -202,15 +202,15 @@ next-behind text at = go (ltb (line_stop text at) (length text)) refl
     go false e = omega arith
 
 pub line-is : (text : List ℕ) (at : ℕ) (h : Head) → HeadIs text at h → (b : Result Body LineRefusal) → BodyIs text b (statement_of (tokens_of (drop h.body text))) → (size : ℕ) → size ≡ statement_size (statement_of (tokens_of (drop h.body text)))
-    → (next : Option ℕ) → next ≡ line_next text at → LineIs text at (record { label = h.label; said = b; size = size; next = next })
-line-is text at h is b body size sized next e =
+    → LineIs text at (record { label = h.label; said = b; size = size })
+line-is text at h is b body size sized =
     record {
       tokens = tokens_of (drop h.body text);
-      says = said-split text at ∙ ap (λ (s : Said). s ∷ said_to text (line_next text at)) (said-head text at h is) ∙ ap (λ (n : Option ℕ). record { name = span_name text h.label; statement = statement_of (tokens_of (drop h.body text)) } ∷ said_to text n) (sym e);
+      says = said-split text at ∙ ap (λ (s : Said). s ∷ said_to text (line_next text at)) (said-head text at h is);
       body = body;
       label = is.label;
       size = sized;
-      behind = subst (λ (n : Option ℕ). left_behind text n < 1 + (length text - at)) (sym e) (next-behind text at);
+      behind = next-behind text at;
     }
 
 -- one line of the first pass
@@ -389,8 +389,8 @@ module _ (text places addresses : List ℕ) (first room at line count bytes : �
       go a false p q r = ltb-false room (bytes + statement_size (statement_of is.tokens)) q
       go false true p q r = let l = ltb-false 0 (statement_size (statement_of is.tokens)) p in omega (arith, on.fits)
 
-  pub line-goes : length places ≡ length addresses → n ≡ 0 → (more : ℕ) → more ≡ pick (is_some l.label) (count + 1) count → Goes text places addresses first room (line + 1) more (bytes + l.size) l.next before
-  line-goes same z more m = record { inside = rw many at (kept-inside text places addresses same grows _ (said_to text l.next) alls); fits = line-inside-room z; lines = omega (arith, on.lines, is.behind); all = rw (← now, ← behind_more first bytes l.size) alls; fails = rw (← now) (sym goes) ∙ on.fails }
+  pub line-goes : length places ≡ length addresses → n ≡ 0 → (more : ℕ) → more ≡ pick (is_some l.label) (count + 1) count → Goes text places addresses first room (line + 1) more (bytes + l.size) (line_next text at) before
+  line-goes same z more m = record { inside = rw many at (kept-inside text places addresses same grows _ (said_to text (line_next text at)) alls); fits = line-inside-room z; lines = omega (arith, on.lines, is.behind); all = rw (← now, ← behind_more first bytes l.size) alls; fails = rw (← now) (sym goes) ∙ on.fails }
     where
       a : ℕ
       a = behind first bytes
@@ -398,17 +398,17 @@ module _ (text places addresses : List ℕ) (first room at line count bytes : �
       grows : List Label
       grows = kept_with (labels_in text places addresses count) a (span_name text l.label)
 
-      alls : labels_from grows (behind a l.size) (said_to text l.next) ≡ (labels_at text places addresses)
-      alls = labels-step (labels_in text places addresses count) a (mod-lt (first + bytes) (omega arith)) (record { name = span_name text l.label; statement = statement_of is.tokens }) (said_to text l.next) (said_from text at) is.says l.size is.size grows refl (behind a l.size) refl ∙ on.all
+      alls : labels_from grows (behind a l.size) (said_to text (line_next text at)) ≡ (labels_at text places addresses)
+      alls = labels-step (labels_in text places addresses count) a (mod-lt (first + bytes) (omega arith)) (record { name = span_name text l.label; statement = statement_of is.tokens }) (said_to text (line_next text at)) (said_from text at) is.says l.size is.size grows refl (behind a l.size) refl ∙ on.all
 
       many : length grows ≡ more
       many = stands-count text l.label is.label (labels_in text places addresses count) a (line-stands (labels_at text places addresses) (labels_in text places addresses count) a bytes room (record { name = span_name text l.label; statement = statement_of is.tokens }) (sym number ∙ z)) ∙ ap (λ (k : ℕ). pick (is_some l.label) (k + 1) k) (labels-count text places addresses count same on.inside) ∙ sym m
 
       now : grows ≡ labels_in text places addresses more
-      now = kept-first text places addresses same grows _ (said_to text l.next) alls ∙ ap (labels_in text places addresses) many
+      now = kept-first text places addresses same grows _ (said_to text (line_next text at)) alls ∙ ap (labels_in text places addresses) many
 
-      goes : failed_from (labels_at text places addresses) (labels_in text places addresses count) first room line bytes (said_from text at) ≡ failed_from (labels_at text places addresses) grows first room (line + 1) (bytes + l.size) (said_to text l.next)
-      goes = ap (failed_from (labels_at text places addresses) (labels_in text places addresses count) first room line bytes) is.says ∙ failed-next (labels_at text places addresses) (labels_in text places addresses count) first room line bytes (record { name = span_name text l.label; statement = statement_of is.tokens }) (said_to text l.next) (sym number ∙ z) ∙ ap (λ (k : ℕ). failed_from (labels_at text places addresses) grows first room (line + 1) (bytes + k) (said_to text l.next)) (sym is.size)
+      goes : failed_from (labels_at text places addresses) (labels_in text places addresses count) first room line bytes (said_from text at) ≡ failed_from (labels_at text places addresses) grows first room (line + 1) (bytes + l.size) (said_to text (line_next text at))
+      goes = ap (failed_from (labels_at text places addresses) (labels_in text places addresses count) first room line bytes) is.says ∙ failed-next (labels_at text places addresses) (labels_in text places addresses count) first room line bytes (record { name = span_name text l.label; statement = statement_of is.tokens }) (said_to text (line_next text at)) (sym number ∙ z) ∙ ap (λ (k : ℕ). failed_from (labels_at text places addresses) grows first room (line + 1) (bytes + k) (said_to text (line_next text at))) (sym is.size)
 
 -- bytes laid where there is room for them
 laid-fits : (bs code : List ℕ) → are_bytes bs ≡ true → length bs ≤ length code → bytes_laid bs code ≡ bs ++ drop (length bs) code
@@ -472,19 +472,19 @@ part-back here line part bytes h e =
 -- one line of the third pass, when its part of the buffer is back
 module _ (text : List ℕ) (at : ℕ) (l : LineRead) (is : LineIs text at l) (labels : List Label) (first bytes : ℕ) (whole code here : List ℕ) (room : length whole ≤ length code) (all : are_bytes whole ≡ true)
     (on : LaidOn whole code here (bytes_from labels first bytes (said_from text at)) bytes) where
-  line-bytes : LaidOn whole code here (statement_bytes labels (behind first bytes) (statement_of is.tokens) ++ bytes_from labels first (bytes + l.size) (said_to text l.next)) bytes
+  line-bytes : LaidOn whole code here (statement_bytes labels (behind first bytes) (statement_of is.tokens) ++ bytes_from labels first (bytes + l.size) (said_to text (line_next text at))) bytes
   unfolding bytes_from
   line-bytes =
-      let next = ap (bytes_from labels first bytes) is.says ∙ ap (λ (n : ℕ). statement_bytes labels (behind first bytes) (statement_of is.tokens) ++ bytes_from labels first (bytes + n) (said_to text l.next)) (sym is.size) in
+      let next = ap (bytes_from labels first bytes) is.says ∙ ap (λ (n : ℕ). statement_bytes labels (behind first bytes) (statement_of is.tokens) ++ bytes_from labels first (bytes + n) (said_to text (line_next text at))) (sym is.size) in
       subst (λ (b : List ℕ). LaidOn whole code here b bytes) next on
 
   pub line-stored : (address : ℕ) (part : List ℕ) → address ≡ behind first bytes → part ≡ bytes_laid (statement_bytes labels address (statement_of is.tokens)) (take (length here - bytes) (drop bytes here))
-      → LaidOn whole code (put_mid bytes (length here - bytes) here part) (bytes_from labels first (bytes + l.size) (said_to text l.next)) (bytes + l.size)
+      → LaidOn whole code (put_mid bytes (length here - bytes) here part) (bytes_from labels first (bytes + l.size) (said_to text (line_next text at))) (bytes + l.size)
   line-stored address part a p =
       let line = statement_bytes labels (behind first bytes) (statement_of is.tokens) in
       let long = is.size ∙ sym ((statement-sized is.tokens).sized labels (behind first bytes)) in
       let back = part-back here line part bytes (here-inside whole code here _ bytes room on).0 (p ∙ ap (λ (n : ℕ). bytes_laid (statement_bytes labels n (statement_of is.tokens)) (take (length here - bytes) (drop bytes here))) a) in
-      subst (λ (b : List ℕ). LaidOn whole code b (bytes_from labels first (bytes + l.size) (said_to text l.next)) (bytes + l.size)) (sym back) (laid_more whole code here line _ bytes room all line-bytes l.size long)
+      subst (λ (b : List ℕ). LaidOn whole code b (bytes_from labels first (bytes + l.size) (said_to text (line_next text at))) (bytes + l.size)) (sym back) (laid_more whole code here line _ bytes room all line-bytes l.size long)
 
   pub line-room : bytes + l.size ≤ length whole
   line-room = (line-stored (behind first bytes) _ refl refl).inside

@@ -51,11 +51,11 @@ said_to text (Some at) = said_from text at
 -- the line at a place: its label, its statement, its bytes and the lines behind it
 pub record LineIs (text : List ℕ) (at : ℕ) (line : LineRead) : Type 0 where
   pub tokens : List Token
-  pub says : said_from text at ≡ record { name = span_name text line.label; statement = statement_of tokens } ∷ said_to text line.next
+  pub says : said_from text at ≡ record { name = span_name text line.label; statement = statement_of tokens } ∷ said_to text (line_next text at)
   pub body : BodyIs text line.said (statement_of tokens)
   pub label : IfSome line.label (SpanIs text)
   pub size : line.size ≡ statement_size (statement_of tokens)
-  pub behind : left_behind text line.next < 1 + (length text - at)
+  pub behind : left_behind text (line_next text at) < 1 + (length text - at)
 
 -- a count that four bytes hold
 abbrev pub capped_count : ℕ → ℕ

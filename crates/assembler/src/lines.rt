@@ -11,13 +11,13 @@ use assembler_lines::{lines as saying, sizes};
 use assembler_text::labels::Labels;
 use assembler_text::tokens;
 
-// A line: its label, if it has one, what stands behind it, how many bytes it has, and the place of the next line.
+// A line: its label, if it has one, what stands behind it, and how many bytes it has. The place of the next is asked for by
+// itself: a line that is refused is the last, and its end is not looked for.
 #[derive(Clone, Copy)]
 pub(crate) struct LineRead {
     pub label: Option<NameSpan>,
     pub said: Result<Body, LineRefusal>,
     pub size: usize,
-    pub next: Option<usize>,
 }
 
 // The place of the line feed that ends the line at a place, or the text's end.
@@ -29,7 +29,7 @@ fn line_stop(text: &[u8], at: usize) -> usize
 
 #[tactic(auto, unfolding(crate::specs::Passes::line_next))]
 // The place of the line behind the one at a place.
-fn line_next(text: &[u8], at: usize) -> Option<usize>
+pub(crate) fn line_next(text: &[u8], at: usize) -> Option<usize>
     ensures { result ≡ line_next text.now at }
 {
     let stop = line_stop(text, at);
@@ -49,7 +49,6 @@ pub(crate) fn line_at(text: &[u8], at: usize) -> LineRead
         label: head.label,
         said,
         size: sizes::size(said),
-        next: line_next(text, at),
     }
 }
 

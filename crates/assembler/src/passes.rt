@@ -72,7 +72,7 @@ pub(crate) fn labels(text: &[u8], first: u32, places: &mut [usize], addresses: &
         let line = lines::line_at(text, at);
         count = kept(text, line.label, address, places, addresses, count);
         address = behind(address, line.size);
-        place = line.next;
+        place = lines::line_next(text, at);
     }
     count
 }
@@ -138,7 +138,7 @@ pub(crate) fn check(text: &[u8], first: u32, labels: &Labels, room: usize) -> Re
         count = and_its(line.label, count);
         bytes += line.size;
         before += 1;
-        place = line.next;
+        place = lines::line_next(text, at);
     }
     Ok(())
 }
@@ -161,7 +161,7 @@ pub(crate) fn store(text: &[u8], first: u32, labels: &Labels, code: &mut [u8]) -
             &mut code[bytes..],
         );
         bytes += line.size;
-        place = line.next;
+        place = lines::line_next(text, at);
     }
     bytes
 }

@@ -94,7 +94,7 @@ loop-place-preserved c =
     let on = subst (λ (p : Option ℕ). Goes text places addresses a.first a.room (l.before + 1) l.count l.bytes p all) c.in-Some.is l.invariant in
     let is = c.line_at-line.ensures in
     let number = number-left labels (labels_in text places addresses l.count) a.first l.bytes a.room _ _ _ (c.check_line.ensures _ is.body is.size l.bytes) c.behind.ensures on.fits in
-    line-goes text places addresses a.first a.room c.in-Some.at (l.before + 1) l.count l.bytes all on _ is _ (not-refused _ (sym c.map_err.ensures.variant ∙ ap is_ok c.in_ok-map_err.was) ∙ number) c.requires.0 refl _ c.and_its-count.ensures
+    rw c.line_next-place.ensures (line-goes text places addresses a.first a.room c.in-Some.at (l.before + 1) l.count l.bytes all on _ is _ (not-refused _ (sym c.map_err.ensures.variant ∙ ap is_ok c.in_ok-map_err.was) ∙ number) c.requires.0 refl _ c.and_its-count.ensures)
 
 pub returns : goal.returns
 returns c =

@@ -23,7 +23,7 @@ loop-place-preserved c =
     let kept = c.kept-count in
     let is = c.line_at-line.ensures in
     let more = labels-step (labels_in text l.places l.addresses l.count) l.address l.invariant.0 _ _ _ is.says _ is.size _ kept.ensures.result_after _ c.behind-address.ensures in
-    (omega (arith, c.behind-address.ensures), (kept.ensures.upper_bound, (kept.ensures.places_len.0, (kept.ensures.places_len.1, more ∙ ap (λ (p : Option ℕ). labels_from (labels_in text l.places l.addresses l.count) l.address (said_to text p)) (sym c.in-Some.is) ∙ l.invariant.1.1.1.1))))
+    rw c.line_next-place.ensures (omega (arith, c.behind-address.ensures), (kept.ensures.upper_bound, (kept.ensures.places_len.0, (kept.ensures.places_len.1, more ∙ ap (λ (p : Option ℕ). labels_from (labels_in text l.places l.addresses l.count) l.address (said_to text p)) (sym c.in-Some.is) ∙ l.invariant.1.1.1.1))))
 
 pub returns-clause-result_after : goal.returns-clause-result_after
 returns-clause-result_after c =

@@ -28,7 +28,7 @@ loop-place-preserved c =
     let labels = labels_of text a.labels.now in
     let whole = bytes_from labels a.first 0 (said_from text 0) in
     let on = subst (λ (p : Option ℕ). LaidOn whole a.code.now l.code (bytes_from labels a.first l.bytes (said_to text p)) l.bytes) c.in-Some.is l.invariant in
-    line-stored text c.in-Some.at _ c.line_at-line.ensures labels a.first l.bytes whole a.code.now l.code c.requires.0 c.requires.1 on _ _ c.behind.ensures (c.put.ensures _ c.line_at-line.ensures.body)
+    rw c.line_next-place.ensures (line-stored text c.in-Some.at _ c.line_at-line.ensures labels a.first l.bytes whole a.code.now l.code c.requires.0 c.requires.1 on _ _ c.behind.ensures (c.put.ensures _ c.line_at-line.ensures.body))
 
 pub returns-clause-value : goal.returns-clause-value
 returns-clause-value c =
