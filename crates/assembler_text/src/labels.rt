@@ -65,7 +65,7 @@ fn is_name(chars: &[u8], name: &[u8]) -> bool
 }
 
 // Whether the label at a place of the text has a name.
-fn named(text: &[u8], place: usize, name: &[u8]) -> bool
+pub fn named(text: &[u8], place: usize, name: &[u8]) -> bool
     ensures { result ≡ same_text (name_at text.now place) (capitals name.now) }
 {
     match text.get(place..) {
