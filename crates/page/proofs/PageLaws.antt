@@ -3,11 +3,12 @@
 use mathlib.Core.List.{List, [], ◌∷◌, ◌++◌}
 use mathlib.Core.Path.{◌≡◌, refl, sym, ap, ap₂, ◌∙◌}
 use Prim.Native.Nat.{ℕ, suc, ◌+◌, ◌-◌, ◌≤◌, ◌<◌}
+use native.Mathlib.Numerals.{add-one}
 use native.Mathlib.Omega.{arith}
 use borrow.Author.Tests.{lt-ltb, le-ltb}
 use borrow.Rule.Slice.PartMut.{put_mid}
-use lib.ListN.{length, set, take, drop, length-append, length-drop}
-use lib.Seq.{take_all, set-append_seam, append_snoc}
+use lib.ListN.{length, set, take, drop, get_or, length-append, length-drop, drop_of_length-le}
+use lib.Seq.{take_all, drop-cons, set-append_seam, append_snoc}
 use Rattle.std.proofs.Common.{min, ◌⊎◌, inl, inr}
 use Rattle.std.proofs.lemmas.Bool.{cases_lt}
 use Rattle.std.proofs.lemmas.List.{length-take-le, take_min, take-append-drop}
@@ -28,10 +29,27 @@ nothing_written p = refl
 
 -- ---- one character at a time
 
+-- with no character left a text is written
+pub all_typed : (p : PageBytes) (text : List ℕ) (i : ℕ) → length text ≤ i → written p (drop i text) ≡ p
+unfolding written
+all_typed p text i h = ap (written p) (drop_of_length-le text h)
+
 -- a character where the page has room
 room-typed : (bytes : List ℕ) (to b : ℕ) → to < length bytes → typed (page bytes to) b ≡ page (set bytes to b) (to + 1)
 unfolding typed
 room-typed bytes to b h = rw (lt-ltb to (length bytes) h)
+
+-- the characters from an index on: the one there, and those behind it
+from-here : (text : List ℕ) (i : ℕ) → i < length text → drop i text ≡ get_or text i 0 ∷ drop (i + 1) text
+from-here text i h = rw (add-one i, drop-cons text i 0)
+
+-- one character more, where the page has room
+pub next-typed : (bytes text : List ℕ) (to i : ℕ) → to < length bytes → i < length text
+    → written (page bytes to) (drop i text) ≡ written (page (set bytes to (get_or text i 0)) (to + 1)) (drop (i + 1) text)
+unfolding written
+next-typed bytes text to i h k =
+    ap (written (page bytes to)) (from-here text i k)
+    ∙ ap (λ (p : PageBytes). written p (drop (i + 1) text)) (room-typed bytes to (get_or text i 0) h)
 
 -- none where it is full
 none-typed : (p : PageBytes) (b : ℕ) → length p.bytes ≤ p.count → typed p b ≡ p

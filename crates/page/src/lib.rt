@@ -21,10 +21,16 @@ impl<'a> Page<'a> {
         ensures put { sheet self.new ≡ written (sheet self.old) text.now }
         ensures same { self.new.bytes.ghost_name ≡ self.old.bytes.ghost_name }
     {
-        let from = self.count.min(self.bytes.len());
-        let fitting = &text[..(self.bytes.len() - from).min(text.len())];
-        self.bytes[from..from + fitting.len()].copy_from_slice(fitting);
-        self.count += fitting.len();
+        let mut count = self.count;
+        // A loop: most pieces are one to eight bytes, for which a call of memcpy, which `copy_from_slice` makes, is dear.
+        for byte in text {
+            if self.bytes.len() <= count {
+                break;
+            }
+            self.bytes[count] = *byte;
+            count += 1;
+        }
+        self.count = count;
     }
 
     // Puts the last `width` hexadecimal digits of a number behind the text; at most eight.
