@@ -4,7 +4,7 @@ use Prim.Native.Nat.{ℕ, ◌+◌, ◌<◌, ◌≤◌}
 use borrow.Author.Tests.{eq-eqb}
 use lib.ListN.{length, drop, length-drop}
 use mathlib.Core.List.{List}
-use mathlib.Core.Path.{◌≡◌, ap, ◌∙◌}
+use mathlib.Core.Path.{◌≡◌, refl, ap, ◌∙◌}
 use native.Mathlib.Decide.{ℕ_discrete}
 use native.Mathlib.Omega.{arith}
 use Rattle.instruction_rules.specs.declared.Memory.{Memory}
@@ -13,6 +13,8 @@ use Rattle.listing_rules.proofs.RowLaws.{count-some, count-there}
 use Rattle.listing_rules.specs.Items.{item_of, count_of, behind_of}
 use Rattle.listing_rules.specs.declared.Item.{Item}
 use Rattle.listing_rules.specs.declared.Item.TheVariants.{Whole, Byte, End}
+use Rattle.lister.specs.Readers.{handed}
+use Rattle.std.proofs.Common.{unwrap_or}
 
 -- at the end nothing stands
 pub nothing-there : (bytes : List ℕ) → length bytes ≡ 0 → item_of bytes ≡ End
@@ -49,3 +51,9 @@ place-below code at n i item h k = go (ℕ_discrete (length (drop at code)) 0)
     go : Dec (length (drop at code) ≡ 0) → at + count_of i < n
     go (yes e) = rw (item ∙ nothing-there (drop at code) e) (omega (arith, k))
     go (no ne) = rw item (omega (arith, h, count-there (drop at code) ne, length-drop at code, ne))
+
+-- what is handed out is what stands there, and where nothing is handed out it is the end
+pub handed-back : (i : Item) → unwrap_or (handed i) End ≡ i
+handed-back (Whole shape to count) = refl
+handed-back Byte = refl
+handed-back End = refl

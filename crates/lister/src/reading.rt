@@ -74,7 +74,7 @@ fn item_of(bytes: &[u8]) -> Item
 }
 
 // What stands at a position of the program bytes.
-pub fn read_at(code: &[u8], at: usize) -> Item
+fn item_at(code: &[u8], at: usize) -> Item
     ensures value { result ≡ item_of (drop at code.now) }
     ensures place { at + count_of result < 2 ^ 64 }
 {
@@ -112,7 +112,7 @@ impl Iterator for Reader<'_> {
     ghost remaining = { λ reader. at_most (length reader.code.now - reader.at) };
 
     fn next(&mut self) -> Option<Item> {
-        let item = read_at(self.code, self.at);
+        let item = item_at(self.code, self.at);
         match item {
             Item::Whole { length, .. } => {
                 self.at += length as usize;
@@ -125,4 +125,13 @@ impl Iterator for Reader<'_> {
             Item::End => None,
         }
     }
+}
+
+// What a reader at a position hands out first, for callers with the bytes and a number.
+pub fn read_at(code: &[u8], at: usize) -> Item
+    ensures value { result ≡ item_of (drop at code.now) }
+    ensures place { at + count_of result < 2 ^ 64 }
+{
+    let mut reader = Reader::new(code, at);
+    reader.next().unwrap_or(Item::End)
 }

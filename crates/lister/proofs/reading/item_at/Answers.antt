@@ -1,10 +1,10 @@
--- `lister::reading::read_at` meets its contract.
+-- `lister::reading::item_at` meets its contract.
 -- Assumes nothing.
 use Prim.Native.Nat.{◌≤◌}
 use native.Mathlib.Omega.{arith}
 use lib.ListN.{length, drop_of_length-le}
 use Rattle.listing_rules.specs.Items.{item_of}
-use Rattle.lister.proofs.reading.read_at.Goals as goal
+use Rattle.lister.proofs.reading.item_at.Goals as goal
 
 pub returns-then-code-at-clause-value : goal.returns-then-code-at-clause-value
 unfolding item_of
