@@ -1,18 +1,21 @@
 -- The text of a listing: what a part is, how long its lines are together, and that the lister put them at a buffer's start.
 -- Assumes nothing.
 use mathlib.Core.Bool.{Bool, true, false}
-use mathlib.Core.List.{List, [], ◌∷◌, ◌++◌}
-use mathlib.Core.Path.{◌≡◌, refl, ap, ap₂, ◌∙◌}
+use mathlib.Core.List.{List, [], ◌∷◌, ◌++◌, append-nil}
+use mathlib.Core.Path.{◌≡◌, refl, sym, ap, ap₂, ◌∙◌}
 use Prim.Native.Nat.{ℕ, zero, suc, ◌+◌, ◌-◌, ◌*◌, ◌≤◌}
 use native.Mathlib.Omega.{arith}
 use borrow.Author.Tests.{leb-true}
+use borrow.Rule.Slice.PartMut.{put_mid}
 use lib.Dec.{leb}
-use lib.ListN.{length, take, drop, length-append, length-take}
+use lib.ListN.{length, take, drop, length-append, length-take, length-drop, drop_of_length-le}
+use lib.Seq.{take_all}
 use Rattle.ground_rules.specs.Choice.{pick}
 use Rattle.listing_rules.specs.Items.{item_of, count_of}
 use Rattle.listing_rules.specs.Listings.{TextLine, lines_by, lines_of, all_chars, Listing, listing, listing_of}
 use Rattle.listing_rules.proofs.Theorems.{Every, none, more, all-proper, all_fit}
-use Rattle.std.proofs.lemmas.List.{take_at}
+use Rattle.page.specs.Pages.{page, written}
+use Rattle.page.proofs.PageLaws.{put_behind}
 use Rattle.script_lines.specs.Lines.{refused_line}
 use Rattle.script_answers.specs.Machine.{is_part}
 use Rattle.script_answers.specs.Shown.{listed_text}
@@ -68,25 +71,36 @@ listed-short s at count = go (is_part s at count) refl
 
 -- ---- what the lister leaves
 
--- of at most 1,024 bytes the lister puts all lines at the start of such a buffer
+-- of at most 1,024 bytes the lister puts all lines at the start of such a buffer, and no byte behind them changes
 pub listed_there : (code : List ℕ) (first : ℕ) (before after : List ℕ) (characters stop : ℕ) → length code ≤ 1024 → 32768 ≤ length before
-    → listing characters stop after ≡ listing_of code first before → (characters ≤ length after) × (take characters after ≡ all_chars (lines_of first code))
+    → listing characters stop after ≡ listing_of code first before
+    → (after ≡ all_chars (lines_of first code) ++ drop (length (all_chars (lines_of first code))) before) × (characters ≡ length (all_chars (lines_of first code)))
 listed_there code first before after characters stop h room e =
-    let text = all_chars (lines_of first code) in
     let short = chars-short first code h in
     let all = e ∙ all_fit code before first (omega arith) (omega arith) in
-    let bytes : after ≡ text ++ drop (length text) before = ap (λ (l : Listing). l.buffer) all in
-    let count : characters ≡ length text = ap (λ (l : Listing). l.characters) all in (
-      omega (arith, ap (λ (l : List ℕ). length l) bytes, length-append text (drop (length text) before)),
-      ap₂ take count bytes ∙ take_at text (drop (length text) before) (length text) refl,
-    )
+    (ap (λ (l : Listing). l.buffer) all, ap (λ (l : Listing). l.characters) all)
 
 -- so those of a part
 pub part_there : (s : List ℕ) (at count : ℕ) (before after : List ℕ) (characters stop : ℕ) → is_part s at count ≡ true → 32768 ≤ length before
     → listing characters stop after ≡ listing_of (take (at + count - at) (drop at s)) at before
-    → (characters ≤ length after) × (take characters after ≡ all_chars (lines_of at (take count (drop at s))))
+    → (after ≡ all_chars (lines_of at (take count (drop at s))) ++ drop (length (all_chars (lines_of at (take count (drop at s))))) before)
+    × (characters ≡ length (all_chars (lines_of at (take count (drop at s)))))
 part_there s at count before after characters stop part room e =
     let size : at + count - at ≡ count = omega arith in
     let few = (parted s at count part).few in
     listed_there (take count (drop at s)) at before after characters stop (omega (arith, length-take count (drop at s), few)) room
     (e ∙ ap (λ (n : ℕ). listing_of (take n (drop at s)) at before) size)
+
+-- ---- what is left of a page
+
+-- a text that stands whole at the start of what was left of a page was put behind the text that stood
+pub put_left : (bytes new text : List ℕ) (count k size : ℕ) → count + length text ≤ length bytes → k ≡ length bytes - count → new ≡ text ++ drop (length text) (drop count bytes) → size ≡ length text
+    → page (put_mid count k bytes new) (count + size) ≡ written (page bytes count) text
+put_left bytes new text count k size room rest is long =
+    let whole : take (length text) text ≡ text = take_all (length text) text (omega arith) in
+    let none : drop k (drop count bytes) ≡ [] = drop_of_length-le (drop count bytes) (omega (arith, length-drop count bytes)) in
+    let same : put_mid count k bytes new ≡ put_mid count (length text) bytes text
+    = ap (λ (l : List ℕ). take count bytes ++ (new ++ l)) none ∙ ap (λ (l : List ℕ). take count bytes ++ l) (append-nil new ∙ is) in
+    let count-same : count + size ≡ count + length (take (length text) text) = omega (arith, ap (λ (l : List ℕ). length l) whole) in
+    ap₂ page same count-same
+    ∙ put_behind bytes text text count count (length text) (length text) (omega arith) (omega arith) (sym whole) refl

@@ -1,7 +1,7 @@
 // Makes a call of the script program's text on a machine, and puts what it shows on a page.
 #![tactic(auto)]
 
-ghost use Rattle.std.specs.Prelude.{◌≡◌, []};
+ghost use Rattle.std.specs.Prelude.{◌≡◌, ◌+◌, ◌≤◌, [], length};
 ghost use Rattle.ground_rules.specs.Buffers.{buffers, lent};
 ghost use Rattle.ground_rules.specs.Choice.{pick};
 ghost use Rattle.ground_rules.specs.States.{fresh_of};
@@ -147,8 +147,9 @@ fn is_part(bytes: &[u8], address: u32, count: u32) -> bool
     }
 }
 
-// Lists a part of a buffer.
+// Lists a part of a buffer, right into what is left of the page: 32,768 bytes hold the text of any part.
 fn list(bytes: &[u8], address: u32, count: u32, page: &mut Page) -> Result<(), NotMade>
+    requires room { page.old.count + 32768 ≤ length page.old.bytes.now }
     ensures why { result ≡ pick (is_part bytes.now address count) (Ok tt) (Err NoPart) }
     ensures behind { sheet page.new ≡ written (sheet page.old) (listed_text bytes.now address count) }
     ensures same { page.new.bytes.ghost_name ≡ page.old.bytes.ghost_name }
@@ -157,9 +158,9 @@ fn list(bytes: &[u8], address: u32, count: u32, page: &mut Page) -> Result<(), N
         return refused(page, NotMade::NoPart);
     }
     let from = address as usize;
-    let mut text = [0; 32768];
-    let listed = lister::listings::list(&bytes[from..from + count as usize], address, &mut text);
-    page.append(&text[..listed.characters as usize]);
+    let part = &bytes[from..from + count as usize];
+    let listed = lister::listings::list(part, address, &mut page.bytes[page.count..]);
+    page.count += listed.characters as usize;
     Ok(())
 }
 
@@ -212,7 +213,7 @@ fn sweep_channel(
     }
 }
 
-// Makes the call of a line, and puts what it shows behind a text.
+// Makes the call of a line, and puts what it shows behind a text that leaves 32,768 bytes.
 fn answer(
     state: &mut State,
     call: ScriptCall,
@@ -221,6 +222,7 @@ fn answer(
     io: &mut [u8],
     page: &mut Page,
 ) -> Result<(), NotMade>
+    requires room { page.old.count + 32768 ≤ length page.old.bytes.now }
     ensures io_value { machine state.new (lent sys.new io.new) ≡ call_performed call line.now state.old (lent sys.old io.old) }
     ensures why { result ≡ pick (call_made call line.now (lent sys.old io.old)) (Ok tt) (Err (not_made call)) }
     ensures behind { sheet page.new ≡ written (sheet page.old) (call_text call line.now state.old (lent sys.old io.old)) }
