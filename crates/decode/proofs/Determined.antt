@@ -4,14 +4,19 @@ use borrow.Fn.Kinds.{Dens, res_t, ended_of}
 use contract.Lifetimes.{Lfts}
 use denote.Triple.Clauses.{AtExit}
 use mathlib.Core.Path.{◌≡◌, sym, ◌∙◌}
+use Rattle.ground_rules.proofs.RefusalLaws.{one-refusal}
 use Rattle.decode.proofs.look_up.Kinds as look-up-kinds
 use Rattle.decode.proofs.look_up.Reads as look-up-reads
 use Rattle.decode.proofs.decode.Kinds as decode-kinds
 use Rattle.decode.proofs.decode.Reads as decode-reads
+use Rattle.decode.proofs.refusal.Kinds as refusal-kinds
+use Rattle.decode.proofs.refusal.Reads as refusal-reads
 use Rattle.decode.proofs.number.Kinds as number-kinds
 use Rattle.decode.proofs.number.Reads as number-reads
 use Rattle.decode.proofs.decode_second.Kinds as decode-second-kinds
 use Rattle.decode.proofs.decode_second.Reads as decode-second-reads
+use Rattle.decode.proofs.second_refusal.Kinds as second-refusal-kinds
+use Rattle.decode.proofs.second_refusal.Reads as second-refusal-reads
 use Rattle.decode.proofs.second_number.Kinds as second-number-kinds
 use Rattle.decode.proofs.second_number.Reads as second-number-reads
 use Rattle.decode.proofs.offset_length.Kinds as offset-length-kinds
@@ -27,6 +32,10 @@ pub decode-determined : (κs : Lfts 0) (a : Dens κs decode-kinds.ps) (r q : (re
     → decode-reads.Post κs a r e → decode-reads.Post κs a q f → r ≡ q
 decode-determined κs a r q e f p w = p ∙ sym w
 
+pub refusal-determined : (κs : Lfts 0) (a : Dens κs refusal-kinds.ps) (r q : (res_t refusal-kinds.r κs).Denot) (e f : AtExit (ended_of 0 refusal-kinds.ps refusal-kinds.r) κs)
+    → refusal-reads.Post κs a r e → refusal-reads.Post κs a q f → r ≡ q
+refusal-determined κs a r q e f p w = one-refusal r q (p ∙ sym w)
+
 pub number-determined : (κs : Lfts 0) (a : Dens κs number-kinds.ps) (r q : (res_t number-kinds.r κs).Denot) (e f : AtExit (ended_of 0 number-kinds.ps number-kinds.r) κs)
     → number-reads.Post κs a r e → number-reads.Post κs a q f → r ≡ q
 number-determined κs a r q e f p w = p ∙ sym w
@@ -34,6 +43,10 @@ number-determined κs a r q e f p w = p ∙ sym w
 pub decode-second-determined : (κs : Lfts 0) (a : Dens κs decode-second-kinds.ps) (r q : (res_t decode-second-kinds.r κs).Denot) (e f : AtExit (ended_of 0 decode-second-kinds.ps decode-second-kinds.r) κs)
     → decode-second-reads.Post κs a r e → decode-second-reads.Post κs a q f → r ≡ q
 decode-second-determined κs a r q e f p w = p ∙ sym w
+
+pub second-refusal-determined : (κs : Lfts 0) (a : Dens κs second-refusal-kinds.ps) (r q : (res_t second-refusal-kinds.r κs).Denot) (e f : AtExit (ended_of 0 second-refusal-kinds.ps second-refusal-kinds.r) κs)
+    → second-refusal-reads.Post κs a r e → second-refusal-reads.Post κs a q f → r ≡ q
+second-refusal-determined κs a r q e f p w = one-refusal r q (p ∙ sym w)
 
 pub second-number-determined : (κs : Lfts 0) (a : Dens κs second-number-kinds.ps) (r q : (res_t second-number-kinds.r κs).Denot) (e f : AtExit (ended_of 0 second-number-kinds.ps second-number-kinds.r) κs)
     → second-number-reads.Post κs a r e → second-number-reads.Post κs a q f → r ≡ q

@@ -7,7 +7,8 @@ use instruction_rules::Looked;
 mod cells;
 mod reads;
 
-ghost use Rattle.std.specs.Prelude.{◌≡◌, ◌+◌, ◌<◌, eqb, leb};
+ghost use Rattle.std.specs.Prelude.{◌≡◌, ◌+◌, ◌<◌, eqb, leb, None, Err};
+ghost use Rattle.ground_rules.specs.Refusals.{number_of};
 ghost use Rattle.instruction_rules.specs.Pairs.{pair_of};
 ghost use Rattle.instruction_rules.specs.Reading.{decode_of, decoded_number, second_of, second_number_of};
 ghost use Rattle.instruction_rules.specs.Lengths.{more_by, two_by, offset_by, offset_length, pair_length};
@@ -15,7 +16,7 @@ ghost use Rattle.decode.specs.Cells.{cell_length};
 
 use decode_shapes::pairs;
 use ground_rules::Refusal;
-use instruction_rules::{Decoded, Memory, Pair};
+use instruction_rules::{Decoded, Memory, Pair, Unread};
 
 // What the first two bytes of an instruction are, and its length; the table is read once.
 pub fn look_up(first: u8, second: u8) -> Looked
@@ -37,13 +38,20 @@ pub fn decode(first: u8, second: u8) -> Decoded
     reads::read(cells::cell(second), pairs::split(first, second))
 }
 
-// The number that an answer stands for; `number-determined` of docs/PROMISES.md is of this function.
+// Why a pair that is no instruction is refused.
+pub fn refusal(unread: Unread) -> Refusal
+    ensures { number_of result ≡ decoded_number (Err unread) }
+{
+    unread.into()
+}
+
+// The number that an answer stands for.
 pub fn number(d: Decoded) -> u32
     ensures { result ≡ decoded_number d }
 {
     match d {
         Ok(_) => 0,
-        Err(unread) => Refusal::from(unread).number(),
+        Err(unread) => refusal(unread).number(),
     }
 }
 
@@ -60,13 +68,20 @@ pub fn decode_second(first: u8, second: u8, wide: bool) -> Option<Memory>
     }
 }
 
-// The number of an answer to a second pair; `second-number-determined` is of this function.
+// Why a second pair that gives no operand is refused.
+pub fn second_refusal() -> Refusal
+    ensures { number_of result ≡ second_number_of None }
+{
+    Refusal::NotAnInstruction
+}
+
+// The number of an answer to a second pair.
 pub fn second_number(second: Option<Memory>) -> u32
     ensures { result ≡ second_number_of second }
 {
     match second {
         Some(_) => 0,
-        None => Refusal::NotAnInstruction.number(),
+        None => second_refusal().number(),
     }
 }
 

@@ -216,7 +216,7 @@ fn unshaped(unread: Unread, tp: Pointer, sys: &[u8], io: &[u8]) -> Refusal
     ensures { number_of result ≡ first (unless (all_touchable (lent sys.now io.now) (bytes_at tp 2)) 2) (decoded_number (Err unread)) }
 {
     if operands::touchable(tp, 2, sys, io) {
-        unread.into()
+        decode::refusal(unread)
     } else {
         Refusal::BeyondMemory
     }

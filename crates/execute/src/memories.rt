@@ -150,7 +150,7 @@ pub fn mov_memory(
         o.wide,
     );
     let Some(q) = second else {
-        return Err(Refusal::NotAnInstruction);
+        return Err(decode::second_refusal());
     };
     mov_operand(f, c, o, q, sys, io)
 }

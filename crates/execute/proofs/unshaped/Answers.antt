@@ -6,7 +6,7 @@ use Rattle.execute.proofs.unshaped.Goals as goal
 
 pub returns-then-touchable : goal.returns-then-touchable
 unfolding first unless
-returns-then-touchable c = simp (c.into.ensures, sym c.touchable.ensures ∙ c.if-touchable.true)
+returns-then-touchable c = simp (c.refusal.ensures, sym c.touchable.ensures ∙ c.if-touchable.true)
 
 pub returns-else-touchable : goal.returns-else-touchable
 unfolding first unless

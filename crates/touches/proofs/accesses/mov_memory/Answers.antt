@@ -10,7 +10,7 @@ pub returns-in_default : goal.returns-in_default
 unfolding mov_memory_deed mov_second_deed second_at places_of span
 returns-in_default c =
     let e = simp (c.byte-2.ensures, c.onward.ensures, c.byte.ensures, c.after_pair-pair.ensures) at (sym c.decode_second-second.ensures ∙ c.in_default.is) in
-    simp (c.at_one.ensures, c.number.ensures, c.in_default.is, e)
+    simp (c.at_one.ensures, c.second_number.ensures, c.in_default.is, e)
 
 pub returns : goal.returns
 unfolding mov_memory_deed mov_second_deed mov_operand_deed second_at places_of

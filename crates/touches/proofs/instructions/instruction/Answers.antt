@@ -70,7 +70,7 @@ returns-in-Err c =
     let what : decoded_at m a.c.tp ≡ c.look-looked.result.decoded = sym (ap (λ (l : Looked). l.decoded) c.look-looked.ensures) in
     let unread = c.in-Err.unread in
     let whole : foreseen c.seen-in-Err.result c.span.new.self.places.now ≡ foretold (execute_number m a.c a.busy) (told_by_instruction m a.c a.busy) a.places.now
-    = rw (c.seen-in-Err.ensures, c.number.ensures, c.from.ensures)
+    = rw (c.seen-in-Err.ensures, c.number.ensures)
     (ap (foreseen_at (decoded_number (Err unread))) told
     ∙ pair-judged m a.c a.busy a.places.now (Err unread) (what ∙ c.in-Err.is) (judged unread) (sym (ap (λ (y : Tale). y.beyond) told) ∙ c.if-teller.false)) in
     search rules
