@@ -6,7 +6,7 @@ use Rattle.ground_rules.specs.Buffers.{Buffers, touchable_at, byte_at}
 use Rattle.ground_rules.specs.Places.{all_touchable}
 use Rattle.ground_rules.specs.Choice.{pick}
 use Rattle.ground_rules.specs.Sums.{sum20}
-use Rattle.transfer.specs.Fetches.{seen, fetch_of}
+use Rattle.transfer.specs.Fetches.{sight, seen, fetch_of}
 use Rattle.transfer_rules.specs.Reads.{fetched, fetched_second, entry_of, delivered, data_of, read_places}
 use Rattle.transfer_rules.specs.Sides.{source, destination, word_side, second_address}
 use Rattle.transfer.specs.Setups.{setup_of}
@@ -33,6 +33,10 @@ from-word c p e = ap (λ (x : Setup). x.fromWord) e
 pub into-word : (c : Channel) (p : Setup) → p ≡ setup_of c → p.intoWord ≡ word_side (destination c)
 unfolding setup_of
 into-word c p e = ap (λ (x : Setup). x.intoWord) e
+
+-- what is read is the byte that stands there, where it may be touched
+pub seen-sight : (m : Buffers) (tag : Bool) (a : ℕ) → seen m tag a ≡ pick (sight m tag a).touchable (Some (sight m tag a).byte) None
+seen-sight m tag a = refl
 
 -- a byte that is seen may be touched, and is the one there; one that is not may not
 pub seen-some : (m : Buffers) (tag : Bool) (a byte : ℕ) → seen m tag a ≡ Some byte → (touchable_at m tag a ≡ true) × (byte ≡ byte_at m tag a)

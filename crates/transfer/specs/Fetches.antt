@@ -6,6 +6,11 @@ use Rattle.ground_rules.specs.Places.{all_touchable}
 use Rattle.ground_rules.specs.declared.Channel.{Channel}
 use Rattle.transfer_rules.specs.Reads.{data_of, read_places}
 use Rattle.transfer_rules.specs.declared.Data.{Data}
+use Rattle.transfer.specs.declared.reads.Seen.{Seen}
+
+-- a byte, and whether a call may touch it
+abbrev pub sight : Buffers → Bool → ℕ → Seen
+sight m tag address = record { byte = byte_at m tag address; touchable = touchable_at m tag address }
 
 -- a byte, if a call may touch it
 abbrev pub seen : Buffers → Bool → ℕ → Option ℕ

@@ -30,7 +30,7 @@ impl Moving {
         ensures count { moved_count result ≡ count_by FirstFetch self.channel (lent sys.now io.now) }
     {
         let from = self.setup.source.pointer;
-        match reads::see(from.tag, from.address, sys, io) {
+        match reads::read(from.tag, from.address, sys, io) {
             Some(byte) => Ok(moves::holds(1, byte)),
             None => Err(Refusal::BeyondMemory),
         }
@@ -43,7 +43,7 @@ impl Moving {
         ensures count { moved_count result ≡ count_by (SecondFetch first) self.channel (lent sys.old io.old) }
     {
         let from = self.setup.source.pointer;
-        let Some(second) = reads::see(from.tag, self.second_from(), sys, io) else {
+        let Some(second) = reads::read(from.tag, self.second_from(), sys, io) else {
             return Err(Refusal::BeyondMemory);
         };
         let bytes = Data { first, second };

@@ -21,5 +21,5 @@ returns c =
     let found = c.in-Some-Some in
     let put = c.put_two in
     pair_is a.c a.source a.destination c.onward-next.result c.onward-behind.result (buffers a.sys.now a.io.now) _ a.from_word a.into_word c.source_tag-from.result c.destination_tag.result put.result found.first found.second
-    p.0 p.1 p.2 c.source_tag-from.ensures c.destination_tag.ensures c.onward-next.ensures c.onward-behind.ensures (sym c.see-first.ensures ∙ found.is-0) (sym c.see-second.ensures ∙ found.is-1)
+    p.0 p.1 p.2 c.source_tag-from.ensures c.destination_tag.ensures c.onward-next.ensures c.onward-behind.ensures (sym c.read-first.ensures ∙ found.is-0) (sym c.read-second.ensures ∙ found.is-1)
     (sym c.met.ensures ∙ c.if-met.false) (ap (◌&&◌ (not a.into_word)) (sym c.met-2.ensures) ∙ c.if-into_word-met.false) put.ensures.0 put.ensures.1

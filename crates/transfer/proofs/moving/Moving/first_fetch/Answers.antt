@@ -34,12 +34,12 @@ pub returns-in-Some : goal.returns-in-Some
 returns-in-Some c =
     let a = c.args in
     let x = a.self.channel in
-    let both = held x (buffers a.sys.now a.io.now) a.self.setup.source c.see.result (source-is x a.self.setup a.self.said) c.requires c.see.ensures _ c.in-Some.is in
+    let both = held x (buffers a.sys.now a.io.now) a.self.setup.source c.read.result (source-is x a.self.setup a.self.said) c.requires c.read.ensures _ c.in-Some.is in
     rw c.holds.ensures (record { left = both.0; count = both.1 })
 
 pub returns-in-None : goal.returns-in-None
 returns-in-None c =
     let a = c.args in
     let x = a.self.channel in
-    let both = lost x (buffers a.sys.now a.io.now) a.self.setup.source c.see.result (source-is x a.self.setup a.self.said) c.requires c.see.ensures c.in-None.is in
+    let both = lost x (buffers a.sys.now a.io.now) a.self.setup.source c.read.result (source-is x a.self.setup a.self.said) c.requires c.read.ensures c.in-None.is in
     record { left = both.0; count = both.1 }

@@ -61,14 +61,14 @@ pub returns-in_default : goal.returns-in_default
 returns-in_default c =
     let a = c.args in
     let x = a.self.channel in
-    let both = lost x (buffers a.sys.now a.io.now) a.self.setup.source a.first c.second_from.result c.see.result (source-is x a.self.setup a.self.said) c.requires.0 c.requires.1 c.second_from.ensures c.see.ensures c.in_default.is in
+    let both = lost x (buffers a.sys.now a.io.now) a.self.setup.source a.first c.second_from.result c.read.result (source-is x a.self.setup a.self.said) c.requires.0 c.requires.1 c.second_from.ensures c.read.ensures c.in_default.is in
     record { left = both.0; count = both.1 }
 
 pub returns-then-not-put : goal.returns-then-not-put
 returns-then-not-put c =
     let a = c.args in
     let x = a.self.channel in
-    let both = unplaced x (buffers a.sys.now a.io.now) a.self.setup.source a.first c.second_from.result c.see.result (source-is x a.self.setup a.self.said) c.requires.0 c.requires.1 c.second_from.ensures c.see.ensures _ c.in-Some.is
+    let both = unplaced x (buffers a.sys.now a.io.now) a.self.setup.source a.first c.second_from.result c.read.result (source-is x a.self.setup a.self.said) c.requires.0 c.requires.1 c.second_from.ensures c.read.ensures _ c.in-Some.is
     c.put.result _ c.put.ensures.told c.put.ensures.stored (not-true _ c.if-not-put.true-raw) in
     record { left = both.0; count = both.1 }
 
@@ -76,6 +76,6 @@ pub returns : goal.returns
 returns c =
     let a = c.args in
     let x = a.self.channel in
-    let both = gone x (buffers a.sys.now a.io.now) a.self.setup.source a.first c.second_from.result c.see.result (source-is x a.self.setup a.self.said) c.requires.0 c.requires.1 c.second_from.ensures c.see.ensures _ c.in-Some.is
+    let both = gone x (buffers a.sys.now a.io.now) a.self.setup.source a.first c.second_from.result c.read.result (source-is x a.self.setup a.self.said) c.requires.0 c.requires.1 c.second_from.ensures c.read.ensures _ c.in-Some.is
     c.put.result _ c.put.ensures.told c.put.ensures.stored (not-false _ c.if-not-put.false-raw) c.finish-done.result c.finish-done.ensures in
     rw c.goes.ensures (record { left = both.0; count = both.1 })
