@@ -26,17 +26,17 @@ use Rattle.state_rules.specs.Calls.{served, answer_from, kind_number, step_left,
 use Rattle.state_rules.specs.Conditions.{Bytes}
 use Rattle.state_rules.specs.Layout.{bytes_of, state_in, is_state}
 use Rattle.std.proofs.Common.{Result, Ok, Err, IfOk}
-use Rattle.ground_rules.specs.Refusals.{number_of, answered}
-use Rattle.ground_rules.specs.declared.Refusal.{Refusal}
-use Rattle.step.specs.Turns.{turned, turn_count}
+use Rattle.ground_rules.specs.Refusals.{number_of}
+use Rattle.step.specs.Turns.{turned, turn_count, turn_number}
 use Rattle.step.specs.declared.Turn.{Turn}
+use Rattle.step.specs.declared.RefusedTurn.{RefusedTurn}
 use Rattle.state_rules.proofs.ForthLaws.{bytes_back}
 use Rattle.state_rules.proofs.BlockLaws.{done}
 
 -- ---- what is answered of it
 
-pub refused-left : (b : List ℕ) (byte : Bytes b) (h : is_state b ≡ true) (second : Bool) (f : Refusal)
-    → (r : ℕ) → r ≡ answer_from (number_of f) 0 0 0
+pub refused-left : (b : List ℕ) (byte : Bytes b) (h : is_state b ≡ true) (second : Bool) (f : RefusedTurn)
+    → (r : ℕ) → r ≡ answer_from (number_of f.why) 0 0 0
     → ((m : Buffers) → served r b m ≡ step_left (turned (state_in b) second (Err f) m) 0) × ((m : Buffers) → state_in b ≡ (turned (state_in b) second (Err f) m).state)
 unfolding kind_number
 refused-left b byte h second f r e = (λ m. rw (bytes_back b byte h, e), λ m. refl)
@@ -48,7 +48,7 @@ done-left b second t x r e put whole = (λ m. rw (e, put), λ m. whole)
 
 -- ---- the step that it is
 
-turned-number : (s : State) (second : Bool) (r : Result Turn Refusal) (m : Buffers) → (turned s second r m).number ≡ answered r
+turned-number : (s : State) (second : Bool) (r : Result Turn RefusedTurn) (m : Buffers) → (turned s second r m).number ≡ turn_number r
 turned-number s second (Ok t) m = refl
 turned-number s second (Err f) m = refl
 
@@ -76,7 +76,7 @@ turn-agrees s m lines second t m' z who e =
     let agrees : agree (with_channel s second t.channel) ≡ true = sym (last-agree (with_channel s second t.channel) second) ∙ ap agree left ∙ step-agree s m lines (entry-agree s m lines z) in
     ap fields_agree (sym (put_same s second t.channel)) ∙ agree-channel-of (with_channel s second t.channel) second agrees
 
-pub turn-fits : (s : State) (m : Buffers) (lines : ℕ) (second : Bool) (r : Result Turn Refusal) (m' : Buffers) → entry_number s m lines ≡ 0 → choice_of s lines ≡ Steps second
+pub turn-fits : (s : State) (m : Buffers) (lines : ℕ) (second : Bool) (r : Result Turn RefusedTurn) (m' : Buffers) → entry_number s m lines ≡ 0 → choice_of s lines ≡ Steps second
     → turned s second r m' ≡ chosen_step (Steps second) s m → IfOk r (λ t. fields_agree t.channel ≡ true)
 turn-fits s m lines second (Ok t) m' z who e = turn-agrees s m lines second t m' z who e
 turn-fits s m lines second (Err f) m' z who e = tt
@@ -99,8 +99,8 @@ module _ (b : List ℕ) (m : Buffers) (h : is_state b ≡ true) (lines : ℕ) wh
       b r m (rw (a, bytes_back b byte h)) refl
 
   -- that of the chosen channel
-  pub turn-served : (s : State) → s ≡ state_in b → (choice : Choice) (second : Bool) (t : Result Turn Refusal) (m' : Buffers) → entry_number s m lines ≡ 0 → choice_of s lines ≡ choice
-      → turned s second t m' ≡ chosen_step choice s m → turn_count t ≡ counted (answered t) (touched_in choice s m)
+  pub turn-served : (s : State) → s ≡ state_in b → (choice : Choice) (second : Bool) (t : Result Turn RefusedTurn) (m' : Buffers) → entry_number s m lines ≡ 0 → choice_of s lines ≡ choice
+      → turned s second t m' ≡ chosen_step choice s m → turn_count t ≡ counted (turn_number t) (touched_in choice s m)
       → (x : List ℕ) (r : ℕ) → served r x m' ≡ step_left (turned (state_in b) second t m') (turn_count t) → state_in x ≡ (turned (state_in b) second t m').state
       → (served r x m' ≡ step_served b m lines) × (is_state b ≡ true → state_in x ≡ (step_of (state_in b) m lines).state)
   unfolding step_count touched_by_step

@@ -17,7 +17,7 @@ ghost use Rattle.state_rules.specs.Calls.{made, served, step_left, answer_from, 
 
 use ground_rules::Refusal;
 use state_bytes::{answers, given, layout};
-use step::Turn;
+use step::{RefusedTurn, Turn};
 use turn_rules::Choice;
 
 // An answer of its four parts.
@@ -126,7 +126,7 @@ fn ended(state: &mut [u8], second: bool) -> u32
 }
 
 // The answer of a channel's step, which is put into the bytes where it is done.
-fn stepped(state: &mut [u8], second: bool, turn: Result<Turn, Refusal>) -> u32
+fn stepped(state: &mut [u8], second: bool, turn: Result<Turn, RefusedTurn>) -> u32
     requires { (is_state state.old ≡ true) × (agree (state_in state.old) ≡ true) × IfOk turn (λ t. fields_agree t.channel ≡ true) }
     ensures left { (m : Buffers) → served result state.new m ≡ step_left (turned (state_in state.old) second turn m) (turn_count turn) }
     ensures whole { (m : Buffers) → state_in state.new ≡ (turned (state_in state.old) second turn m).state }
@@ -142,7 +142,7 @@ fn stepped(state: &mut [u8], second: bool, turn: Result<Turn, Refusal>) -> u32
                 turn.count,
             )
         }
-        Err(refusal) => refused(refusal),
+        Err(refusal) => refused(refusal.why),
     }
 }
 

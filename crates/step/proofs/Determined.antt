@@ -5,13 +5,12 @@ use contract.Lifetimes.{Lfts}
 use denote.Triple.Clauses.{AtExit}
 use Rattle.std.proofs.Common.{◌≡◌, ℕ, refl, sym, ap, ◌∙◌, Result, Ok, Err}
 use Rattle.ground_rules.specs.Buffers.{Buffers, buffers, lent}
-use Rattle.ground_rules.specs.Refusals.{answered}
 use Rattle.ground_rules.specs.declared.Channel.{Channel}
-use Rattle.ground_rules.specs.declared.Refusal.{Refusal}
 use Rattle.step.specs.declared.Turn.{Turn}
+use Rattle.step.specs.declared.RefusedTurn.{RefusedTurn}
 use Rattle.ground_rules.specs.Outcomes.{counted}
 use Rattle.turn_rules.specs.Step.{stepped_by, stepped_count}
-use Rattle.step.specs.Turns.{Taken, taken, turn_count, turn_touched}
+use Rattle.step.specs.Turns.{Taken, taken, turn_count, turn_number, turn_touched}
 use Rattle.step.proofs.channel_turn.Kinds as turn-kinds
 use Rattle.step.proofs.channel_turn.Reads as turn-reads
 use Rattle.step.proofs.turns.choose.Kinds as choose-kinds
@@ -28,9 +27,9 @@ pub step-determined : (κs : Lfts 2) (a : Dens κs step-kinds.ps) (r q : (res_t 
 step-determined κs a r q e f p w = (p.0 ∙ sym w.0, p.1 ∙ sym w.1)
 
 -- the number of a turn is that of what it leaves
-numbered : (c : Channel) (r : Result Turn Refusal) (m : Buffers) → answered r ≡ (taken c r m).number
+numbered : (c : Channel) (r : Result Turn RefusedTurn) (m : Buffers) → turn_number r ≡ (taken c r m).number
 numbered c (Ok t) m = refl
-numbered c (Err refusal) m = refl
+numbered c (Err refused) m = refl
 
 pub channel-turn-determined : (κs : Lfts 2) (a : Dens κs turn-kinds.ps) (r q : (res_t turn-kinds.r κs).Denot) (e f : AtExit (ended_of 2 turn-kinds.ps turn-kinds.r) κs)
     → turn-reads.Post κs a r e → turn-reads.Post κs a q f → (taken a.1.1.0 r (buffers e.1.1.1.0.now e.1.1.1.1.0.now) ≡ taken a.1.1.0 q (buffers f.1.1.1.0.now f.1.1.1.1.0.now)) × (turn_count r ≡ turn_count q)

@@ -7,7 +7,6 @@ use mathlib.Core.Path.{◌≡◌, refl, sym, ap, ◌∙◌}
 use native.Mathlib.Decide.{ℕ_discrete}
 use Rattle.std.proofs.Common.{Result, Ok, Err}
 use Rattle.ground_rules.specs.Buffers.{Buffers}
-use Rattle.ground_rules.specs.declared.Refusal.{Refusal}
 use Rattle.ground_rules.proofs.RefusalLaws.{number-some}
 use Rattle.ground_rules.specs.Psw.{transferring}
 use Rattle.ground_rules.specs.States.{channel_of, block_of, busy_in}
@@ -23,6 +22,7 @@ use Rattle.turn_rules.specs.declared.Kind.{Kind}
 use Rattle.turn_rules.specs.declared.Kind.TheVariants.{Instruction, Transfer}
 use Rattle.step.specs.Turns.{turned, Taken, taken, turn_of, turn_touched}
 use Rattle.step.specs.declared.Turn.{Turn}
+use Rattle.step.specs.declared.RefusedTurn.{RefusedTurn}
 
 -- a refused one leaves memory as it was
 kept-settled : (number : ℕ) (s : State) (m m' : Buffers) (second : Bool) (c : Channel) (kind : Kind) → ((number ≡ 0 → ⊥) → m' ≡ m)
@@ -46,21 +46,21 @@ settled-turn s m second false flag x e =
     rw (flag, rw flag at e) (kept-settled o.number s m o.memory second o.channel Instruction (execute-kept (channel_of s second) (busy_in (block_of s second)) m))
 
 -- put into its state, it leaves what the turn leaves
-turned-settled : (s : State) (m' : Buffers) (second : Bool) (c : Channel) (t : Result Turn Refusal) → settled_step (taken c t m').number s m' second (taken c t m').channel m' (taken c t m').kind ≡ turned s second t m'
+turned-settled : (s : State) (m' : Buffers) (second : Bool) (c : Channel) (t : Result Turn RefusedTurn) → settled_step (taken c t m').number s m' second (taken c t m').channel m' (taken c t m').kind ≡ turned s second t m'
 unfolding settled_step
 turned-settled s m' second c (Ok t) = refl
-turned-settled s m' second c (Err refusal) = rw (number-some refusal)
+turned-settled s m' second c (Err refused) = rw (number-some refused.why)
 
-memory-taken : (c : Channel) (t : Result Turn Refusal) (m' : Buffers) → m' ≡ (taken c t m').memory
+memory-taken : (c : Channel) (t : Result Turn RefusedTurn) (m' : Buffers) → m' ≡ (taken c t m').memory
 memory-taken c (Ok t) m' = refl
-memory-taken c (Err refusal) m' = refl
+memory-taken c (Err refused) m' = refl
 
 own-touched : (s : State) (m : Buffers) (second : Bool) → turn_touched (channel_of s second) s m second ≡ touched_in (Steps second) s m
 unfolding turn_touched touched_in
 own-touched s m second = refl
 
 -- so the turn of a state's own channel is its step, and touches that step's bytes
-pub turn-steps : (s o : State) → s ≡ o → (m : Buffers) (second : Bool) (c : Channel) → c ≡ channel_of o second → (t : Result Turn Refusal) (m' : Buffers) → taken c t m' ≡ turn_of c s m second
+pub turn-steps : (s o : State) → s ≡ o → (m : Buffers) (second : Bool) (c : Channel) → c ≡ channel_of o second → (t : Result Turn RefusedTurn) (m' : Buffers) → taken c t m' ≡ turn_of c s m second
     → (turned s second t m' ≡ channel_step s m second) × (turn_touched c s m second ≡ touched_in (Steps second) s m)
 turn-steps s o same m second c of t m' e =
     let is : c ≡ channel_of s second = of ∙ ap (λ (x : State). channel_of x second) (sym same) in (

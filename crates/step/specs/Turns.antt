@@ -5,7 +5,6 @@ use Rattle.ground_rules.specs.Choice.{pick}
 use Rattle.ground_rules.specs.Places.{Place}
 use Rattle.ground_rules.specs.Psw.{transferring}
 use Rattle.ground_rules.specs.Refusals.{number_of}
-use Rattle.ground_rules.specs.declared.Refusal.{Refusal}
 use Rattle.ground_rules.specs.States.{block_of, busy_in, channel_number, with_channel, with_last}
 use Rattle.ground_rules.specs.declared.Channel.{Channel}
 use Rattle.ground_rules.specs.declared.State.{State}
@@ -16,6 +15,7 @@ use Rattle.turn_rules.specs.declared.Kind.{Kind}
 use Rattle.turn_rules.specs.declared.Stepped.{Stepped}
 use Rattle.turn_rules.specs.declared.Kind.TheVariants.{Instruction, Transfer}
 use Rattle.step.specs.declared.Turn.{Turn}
+use Rattle.step.specs.declared.RefusedTurn.{RefusedTurn}
 
 -- what a done step answers: its channel is put back and is the last to step (§5.6)
 abbrev pub done_as : State → Bool → Channel → Kind → ℕ → Stepped
@@ -23,14 +23,19 @@ done_as s second c kind count =
     record { count = count; state = with_last (with_channel s second c) second; channel = channel_number second; kind = kind }
 
 -- what it leaves of a state whose channel of this name has stepped, with the memories after it
-abbrev pub turned : State → Bool → Result Turn Refusal → Buffers → Step
+abbrev pub turned : State → Bool → Result Turn RefusedTurn → Buffers → Step
 turned s second (Ok t) m = done_step s second t.channel m t.kind
-turned s second (Err refusal) m = refused_step (number_of refusal) s m
+turned s second (Err refused) m = refused_step (number_of refused.why) s m
+
+-- the number of a turn: 0 where it is done
+abbrev pub turn_number : Result Turn RefusedTurn → ℕ
+turn_number (Ok t) = 0
+turn_number (Err refused) = number_of refused.why
 
 -- how many bytes it read and stored: none where it is refused
-abbrev pub turn_count : Result Turn Refusal → ℕ
+abbrev pub turn_count : Result Turn RefusedTurn → ℕ
 turn_count (Ok t) = t.count
-turn_count (Err refusal) = 0
+turn_count (Err refused) = 0
 
 -- a turn with the memories after it
 pub record Taken : Type 0 where
@@ -40,9 +45,9 @@ pub record Taken : Type 0 where
   pub kind : Kind
 
 -- the turn of a channel: a refused one leaves it as it was
-abbrev pub taken : Channel → Result Turn Refusal → Buffers → Taken
+abbrev pub taken : Channel → Result Turn RefusedTurn → Buffers → Taken
 taken c (Ok t) m = record { number = 0; channel = t.channel; memory = m; kind = t.kind }
-taken c (Err refusal) m = record { number = number_of refusal; channel = c; memory = m; kind = pick (transferring c.psw) Transfer Instruction }
+taken c (Err refused) m = record { number = number_of refused.why; channel = c; memory = m; kind = refused.kind }
 
 -- the turn of a channel that stands in the place of the one of this name: with XF a transfer step, else an instruction
 unfoldable pub turn_of : Channel → State → Buffers → Bool → Taken

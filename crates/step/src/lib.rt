@@ -10,7 +10,7 @@ ghost use Rattle.transfer_rules.specs.Ends.{externally_ended};
 ghost use Rattle.turn_rules.specs.declared.Choice.TheVariants.{Steps};
 ghost use Rattle.turn_rules.specs.declared.Kind.TheVariants.{External};
 ghost use Rattle.turn_rules.specs.Touched.{touched_in, step_count};
-ghost use Rattle.step.specs.Turns.{done_as, taken, turn_count, turn_of, turn_touched};
+ghost use Rattle.step.specs.Turns.{done_as, taken, turn_count, turn_number, turn_of, turn_touched};
 ghost use Rattle.turn_rules.specs.Step.{stepped_by, stepped_count, channel_step, chosen_step, entry_number, step_of};
 
 use ground_rules::{Channel, Done, Refusal, State};
@@ -24,6 +24,13 @@ pub mod turns;
 pub struct Turn {
     pub count: u32,
     pub channel: Channel,
+    pub kind: Kind,
+}
+
+// Why a channel's step is refused, and its kind.
+#[derive(Clone, Copy)]
+pub struct RefusedTurn {
+    pub why: Refusal,
     pub kind: Kind,
 }
 
@@ -62,17 +69,27 @@ pub fn channel_turn(
     c: Channel,
     sys: &mut [u8],
     io: &mut [u8],
-) -> Result<Turn, Refusal>
+) -> Result<Turn, RefusedTurn>
     ensures left { taken c result (lent sys.new io.new) ≡ turn_of c s (lent sys.old io.old) second }
-    ensures count { turn_count result ≡ counted (answered result) (turn_touched c s (lent sys.old io.old) second) }
+    ensures count { turn_count result ≡ counted (turn_number result) (turn_touched c s (lent sys.old io.old) second) }
 {
     if machine::psw::transferring(c.psw) {
-        let moved = transfer::transfer(c, sys, io)?;
-        return Ok(turned(moved, Kind::Transfer));
+        return match transfer::transfer(c, sys, io) {
+            Ok(moved) => Ok(turned(moved, Kind::Transfer)),
+            Err(why) => Err(RefusedTurn {
+                why,
+                kind: Kind::Transfer,
+            }),
+        };
     }
     let busy = machine::states::busy(machine::states::block(s, second));
-    let executed = execute::execute(c, busy, sys, io)?;
-    Ok(turned(executed, Kind::Instruction))
+    match execute::execute(c, busy, sys, io) {
+        Ok(executed) => Ok(turned(executed, Kind::Instruction)),
+        Err(why) => Err(RefusedTurn {
+            why,
+            kind: Kind::Instruction,
+        }),
+    }
 }
 
 // The same with the state after it.
@@ -80,8 +97,10 @@ fn channel_step(s: State, second: bool, sys: &mut [u8], io: &mut [u8]) -> Result
     ensures left { stepped_by s result (lent sys.new io.new) ≡ channel_step s (lent sys.old io.old) second }
     ensures count { stepped_count result ≡ counted (answered result) (touched_in (Steps second) s (lent sys.old io.old)) }
 {
-    let t = channel_turn(s, second, machine::states::channel(s, second), sys, io)?;
-    Ok(done(s, second, t))
+    match channel_turn(s, second, machine::states::channel(s, second), sys, io) {
+        Ok(turn) => Ok(done(s, second, turn)),
+        Err(refused) => Err(refused.why),
+    }
 }
 
 // The external end of a channel's transfer, which is the whole step.

@@ -16,7 +16,7 @@ use Rattle.state_rules.specs.Layout.{state_in}
 use Rattle.state_rules.proofs.CallLaws.{state-length, step-none}
 use Rattle.step.proofs.TurnLaws.{turn-steps}
 use Rattle.ground_rules.specs.Outcomes.{counted}
-use Rattle.ground_rules.specs.Refusals.{answered}
+use Rattle.step.specs.Turns.{turn_number}
 use Rattle.ground_rules.proofs.RefusalLaws.{number-positive}
 use Rattle.service.proofs.TurnLaws.{entry-refused, chosen-step, refused-served, turn-served, turn-fits, end-served}
 use Rattle.service.proofs.iop89_step.Goals as goal
@@ -106,5 +106,5 @@ returns-in-Steps c =
     let t = c.channel_turn-turn in
     let w = turn-steps s.result _ s.ensures m _ _ c.stepping.ensures t.result _ t.ensures.left in
     turn-served a.state.now m (sym c.is_state.ensures ∙ c.if-not-is_state.false) a.lines s.result s.ensures _ _ t.result _
-    (sym c.in_default.ensures) (sym c.choose.ensures ∙ c.in-Steps.is) w.0 (t.ensures.count ∙ ap (counted (answered t.result)) w.1) _ _ (c.stepped.ensures.left _) (c.stepped.ensures.whole _) in
+    (sym c.in_default.ensures) (sym c.choose.ensures ∙ c.in-Steps.is) w.0 (t.ensures.count ∙ ap (counted (turn_number t.result)) w.1) _ _ (c.stepped.ensures.left _) (c.stepped.ensures.whole _) in
     record { left = both.0; whole = both.1 }

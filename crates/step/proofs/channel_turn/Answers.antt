@@ -3,7 +3,6 @@
 use Prim.Native.Nat.{ℕ}
 use mathlib.Core.Path.{sym, ap, ◌∙◌}
 use Rattle.instruction_rules.specs.Execute.{touched_by_instruction, Executed, execute_of, execute_count}
-use Rattle.std.proofs.lemmas.Result.{err_from_is_err_and}
 use Rattle.ground_rules.specs.Outcomes.{counted}
 use Rattle.ground_rules.specs.States.{block_of, busy_in}
 use Rattle.ground_rules.specs.Buffers.{buffers}
@@ -13,56 +12,54 @@ use Rattle.turn_rules.specs.declared.Kind.TheVariants.{Instruction, Transfer}
 use Rattle.step.specs.Turns.{turn_of, turn_touched}
 use Rattle.step.proofs.channel_turn.Goals as goal
 
-pub returns-in_err-moved : goal.returns-in_err-moved
+pub returns-in-Err : goal.returns-in-Err
 unfolding turn_of turn_touched transfer_count
-returns-in_err-moved c =
+returns-in-Err c =
     let a = c.args in
     let m = buffers a.sys.now a.io.now in
     let flag = sym c.transferring.ensures ∙ c.if-transferring.true in
-    let e = c.in_err-moved.ensures in
-    let p = err_from_is_err_and c.from_residual.result c.from_residual.ensures.1 in
-    rw (p.1, p.2) (record {
+    let e = c.in-Err.ensures in
+    record {
       left = rw flag (ap (λ (x : Steps.Transfer). record { number = x.number; channel = x.channel; memory = x.memory; kind = Transfer }) e.left);
       count = rw flag (e.count ∙ ap (λ (x : Steps.Transfer). counted x.number (touched_by_transfer a.c m)) (sym e.left));
-    })
+    }
 
-pub returns-then-transferring : goal.returns-then-transferring
+pub returns-in-Ok : goal.returns-in-Ok
 unfolding turn_of turn_touched transfer_count
-returns-then-transferring c =
+returns-in-Ok c =
     let a = c.args in
     let m = buffers a.sys.now a.io.now in
     let flag = sym c.transferring.ensures ∙ c.if-transferring.true in
-    let e = c.in_ok-moved.ensures in
+    let e = c.in-Ok.ensures in
     rw c.turned.ensures (record {
       left = rw flag (ap (λ (x : Steps.Transfer). record { number = x.number; channel = x.channel; memory = x.memory; kind = Transfer }) e.left);
       count = rw flag (e.count ∙ ap (λ (x : Steps.Transfer). counted x.number (touched_by_transfer a.c m)) (sym e.left));
     })
 
-pub returns-in_err-executed : goal.returns-in_err-executed
+pub returns-in-Err-execute : goal.returns-in-Err-execute
 unfolding turn_of turn_touched execute_count
-returns-in_err-executed c =
+returns-in-Err-execute c =
     let a = c.args in
     let m = buffers a.sys.now a.io.now in
     let flag = sym c.transferring.ensures ∙ c.if-transferring.false in
     let at = c.busy-busy.ensures ∙ ap busy_in c.block.ensures in
-    let d = c.in_err-executed.ensures in
+    let d = c.in-Err-execute.ensures in
     let e = d.left ∙ ap (λ (y : ℕ). execute_of a.c y m) at in
-    let p = err_from_is_err_and c.from_residual-in_err-executed.result c.from_residual-in_err-executed.ensures.1 in
-    rw (p.1, p.2) (record {
+    record {
       left = rw flag (ap (λ (x : Executed). record { number = x.number; channel = x.channel; memory = x.memory; kind = Instruction }) e);
       count = rw flag (d.count ∙ ap (λ (y : ℕ). execute_count a.c y m) at ∙ ap (λ (x : Executed). counted x.number (touched_by_instruction m a.c (busy_in (block_of a.s a.second)))) (sym e));
-    })
+    }
 
-pub returns : goal.returns
+pub returns-in-Ok-execute : goal.returns-in-Ok-execute
 unfolding turn_of turn_touched execute_count
-returns c =
+returns-in-Ok-execute c =
     let a = c.args in
     let m = buffers a.sys.now a.io.now in
     let flag = sym c.transferring.ensures ∙ c.if-transferring.false in
     let at = c.busy-busy.ensures ∙ ap busy_in c.block.ensures in
-    let d = c.in_ok-executed.ensures in
+    let d = c.in-Ok-execute.ensures in
     let e = d.left ∙ ap (λ (y : ℕ). execute_of a.c y m) at in
-    rw c.turned-2.ensures (record {
+    rw c.turned-in-Ok-execute.ensures (record {
       left = rw flag (ap (λ (x : Executed). record { number = x.number; channel = x.channel; memory = x.memory; kind = Instruction }) e);
       count = rw flag (d.count ∙ ap (λ (y : ℕ). execute_count a.c y m) at ∙ ap (λ (x : Executed). counted x.number (touched_by_instruction m a.c (busy_in (block_of a.s a.second)))) (sym e));
     })
