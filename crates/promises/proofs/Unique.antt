@@ -8,7 +8,6 @@ use Rattle.ground_rules.specs.declared.Answer.{Answer}
 use Rattle.ground_rules.specs.declared.Refusal.{Refusal}
 use Rattle.ground_rules.specs.declared.State.{State}
 use Rattle.ground_rules.specs.Outcomes.{Outcome}
-use Rattle.ground_rules.specs.States.{reset_state}
 use Rattle.ground_rules.proofs.RefusalLaws.{one-answer, one-refusal, number-positive}
 use Rattle.run_rules.specs.Run.{Run, Call, ran, stop_number}
 use Rattle.run_rules.specs.declared.Ran.{Ran}
@@ -46,9 +45,9 @@ pub one-outcome : OneOutcome
 one-outcome = record {
   fresh = λ cp r r' p q. p ∙ sym q;
   reset = λ r r' p q. p ∙ sym q;
-  power = λ m r r' sys sys' io io' p q.
-      let e = p.0 reset_state ∙ sym (q.0 reset_state) in
-      record { answer = one-answer reset_state r r' _ _ e (p.1 ∙ sym q.1); system = sym (ap (λ (b : Buffers). b.sys) (outcome-memory reset_state r _)) ∙ ap (λ (o : Outcome). o.memory.sys) e ∙ ap (λ (b : Buffers). b.sys) (outcome-memory reset_state r' _); input_output = sym (ap (λ (b : Buffers). b.io) (outcome-memory reset_state r _)) ∙ ap (λ (o : Outcome). o.memory.io) e ∙ ap (λ (b : Buffers). b.io) (outcome-memory reset_state r' _) };
+  power = λ s m r r' sys sys' io io' p q.
+      let e = p.0 ∙ sym q.0 in
+      record { answer = one-answer s r r' _ _ e (p.1 ∙ sym q.1); system = sym (ap (λ (b : Buffers). b.sys) (outcome-memory s r _)) ∙ ap (λ (o : Outcome). o.memory.sys) e ∙ ap (λ (b : Buffers). b.sys) (outcome-memory s r' _); input_output = sym (ap (λ (b : Buffers). b.io) (outcome-memory s r _)) ∙ ap (λ (o : Outcome). o.memory.io) e ∙ ap (λ (b : Buffers). b.io) (outcome-memory s r' _) };
   attention = λ s m channel r r' sys sys' io io' p q.
       let e = p.0 ∙ sym q.0 in
       record { answer = one-answer s r r' _ _ e (p.1 ∙ sym q.1); system = sym (ap (λ (b : Buffers). b.sys) (outcome-memory s r _)) ∙ ap (λ (o : Outcome). o.memory.sys) e ∙ ap (λ (b : Buffers). b.sys) (outcome-memory s r' _); input_output = sym (ap (λ (b : Buffers). b.io) (outcome-memory s r _)) ∙ ap (λ (o : Outcome). o.memory.io) e ∙ ap (λ (b : Buffers). b.io) (outcome-memory s r' _) };

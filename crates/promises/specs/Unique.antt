@@ -26,9 +26,9 @@ FreshMeets cp r = r ≡ fresh_of cp
 abbrev pub ResetMeets : State → Type 0
 ResetMeets r = r ≡ reset_state
 
--- `power::power_up`: the answer r, and both buffers as they are left, whatever state it is called on
-abbrev pub PowerMeets : Buffers → Result Answer Refusal → List ℕ → List ℕ → Type 0
-PowerMeets m r sys io = ((s : State) → outcome_by s r (buffers sys io) ≡ power_up_of s m) × (answer_count r ≡ power_count m)
+-- `power::power_up`: the answer r, and both buffers as they are left, of a state that it is called on; its contract is of each
+abbrev pub PowerMeets : State → Buffers → Result Answer Refusal → List ℕ → List ℕ → Type 0
+PowerMeets s m r sys io = (outcome_by s r (buffers sys io) ≡ power_up_of s m) × (answer_count r ≡ power_count m)
 
 -- `attention::attention`: the answer r, and both buffers as they are left
 abbrev pub AttentionMeets : State → Buffers → ℕ → Result Answer Refusal → List ℕ → List ℕ → Type 0
@@ -71,8 +71,8 @@ pub record Same {A : Type 0} (r r' : A) (sys sys' io io' : List ℕ) : Type 0 wh
 pub record OneOutcome : Type 0 where
   pub fresh : (cp : ℕ) (r r' : Made) → FreshMeets cp r → FreshMeets cp r' → r ≡ r'
   pub reset : (r r' : State) → ResetMeets r → ResetMeets r' → r ≡ r'
-  pub power : (m : Buffers) (r r' : Result Answer Refusal) (sys sys' io io' : List ℕ)
-      → PowerMeets m r sys io → PowerMeets m r' sys' io' → Same r r' sys sys' io io'
+  pub power : (s : State) (m : Buffers) (r r' : Result Answer Refusal) (sys sys' io io' : List ℕ)
+      → PowerMeets s m r sys io → PowerMeets s m r' sys' io' → Same r r' sys sys' io io'
   pub attention : (s : State) (m : Buffers) (channel : ℕ) (r r' : Result Answer Refusal) (sys sys' io io' : List ℕ)
       → AttentionMeets s m channel r sys io → AttentionMeets s m channel r' sys' io' → Same r r' sys sys' io io'
   pub choose : (s : State) (lines : ℕ) (r r' : Choice) → ChooseMeets s lines r → ChooseMeets s lines r' → r ≡ r'
