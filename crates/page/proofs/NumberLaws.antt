@@ -1,6 +1,6 @@
 -- The laws of numbers as characters: how many there are at most, and zeros in front passed over one at a time.
 -- Assumes nothing.
-use Rattle.std.proofs.Common.{◌≡◌, ◌==◌, ◌⊎◌, inl, inr, refl, Bool, true, false, not, cond, List, [], ◌∷◌, ℕ, zero, suc, ◌+◌, ◌-◌, ◌≤◌, ◌<◌, length, take, drop, unwrap_or, one-add, arith}
+use Rattle.std.proofs.Common.{◌≡◌, ◌==◌, ◌⊎◌, inl, inr, refl, ap, Bool, true, false, not, cond, List, [], ◌∷◌, ℕ, zero, suc, ◌+◌, ◌-◌, ◌*◌, ◌/◌, ◌%◌, ◌^◌, ◌≤◌, ◌<◌, length, take, drop, unwrap_or, one-add, arith}
 use Rattle.std.specs.List.{position, position_or_len}
 use Rattle.std.proofs.lemmas.Bool.{cases_lt}
 use Rattle.std.proofs.lemmas.List.{length-take}
@@ -9,7 +9,7 @@ use borrow.Author.Tests.{lt-ltb, le-ltb}
 use lib.Dec.{eqb}
 use lib.ListN.{length-drop}
 use Rattle.ground_rules.specs.Choice.{pick}
-use Rattle.page.specs.Numbers.{eight_digits, hex, ten_digits, unpadded, decimal}
+use Rattle.page.specs.Numbers.{glyph, eight_digits, hex, ten_digits, unpadded, decimal}
 
 -- ---- lengths
 
@@ -34,6 +34,26 @@ unpadded-short (d ∷ e ∷ digits) = go (eqb d 48) (unpadded-short (e ∷ digit
 pub decimal-short : (n : ℕ) → length (decimal n) ≤ 10
 unfolding decimal ten_digits
 decimal-short n = unpadded-short (ten_digits n)
+
+-- ---- hexadecimal digits
+
+-- of no digits none is left
+pub hex_none : (small : Bool) (n : ℕ) → hex small 0 n ≡ []
+unfolding hex eight_digits
+hex_none small n = refl
+
+-- one digit more is the one in front
+pub hex_next : (small : Bool) (n k : ℕ) → k < 8 → hex small (k + 1) n ≡ glyph small (n / 2 ^ (4 * k % 64) % 16) ∷ hex small k n
+unfolding hex eight_digits
+hex_next small n zero h = let same : n % 16 ≡ n / 1 % 16 = omega arith in ap (λ (d : ℕ). glyph small d ∷ []) same
+hex_next small n (suc zero) h = refl
+hex_next small n (suc (suc zero)) h = refl
+hex_next small n (suc (suc (suc zero))) h = refl
+hex_next small n (suc (suc (suc (suc zero)))) h = refl
+hex_next small n (suc (suc (suc (suc (suc zero))))) h = refl
+hex_next small n (suc (suc (suc (suc (suc (suc zero)))))) h = refl
+hex_next small n (suc (suc (suc (suc (suc (suc (suc zero))))))) h = refl
+hex_next small n (suc (suc (suc (suc (suc (suc (suc (suc k)))))))) h = absurd (omega arith)
 
 -- ---- zeros in front
 

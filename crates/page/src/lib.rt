@@ -4,7 +4,7 @@
 ghost use Rattle.std.specs.Prelude.{◌≡◌, ◌<◌, ◌==◌, not, position, take};
 ghost use Rattle.page.specs.Pages.{sheet, written};
 ghost use Rattle.page.specs.Numbers as Numbers;
-ghost use Rattle.page.specs.Numbers.{hex, eight_digits, decimal, unpadded};
+ghost use Rattle.page.specs.Numbers.{hex, decimal, unpadded};
 
 use turn_rules::Kind;
 
@@ -38,7 +38,12 @@ impl<'a> Page<'a> {
         ensures put { sheet self.new ≡ written (sheet self.old) (hex small width n) }
         ensures same { self.new.bytes.ghost_name ≡ self.old.bytes.ghost_name }
     {
-        self.append(&hex_digits(n, small)[8 - width.min(8)..]);
+        let shown = width.min(8);
+        // One by one, since only those that are asked for are worked out.
+        for i in 0..shown {
+            let shift = 4 * (shown - 1 - i) as u32;
+            self.append(&[glyph(small, n.wrapping_shr(shift) % 16)]);
+        }
     }
 
     // Puts a number in decimal behind the text.
@@ -75,14 +80,6 @@ fn glyph(small: bool, digit: u64) -> u8
         _ if small => b'a' - 10 + digit,
         _ => b'A' - 10 + digit,
     }
-}
-
-// The last eight hexadecimal digits of a number.
-#[tactic(auto, unfolding(crate::specs::Numbers::eight_digits))]
-fn hex_digits(n: u64, small: bool) -> [u8; 8]
-    ensures { result ≡ eight_digits small n }
-{
-    [28, 24, 20, 16, 12, 8, 4, 0].map(|shift| glyph(small, n.wrapping_shr(shift) % 16))
 }
 
 // Where the first of ten digits stands that is no zero, the last one left out.
